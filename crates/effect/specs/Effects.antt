@@ -1,0 +1,45 @@
+-- What instructions do to A and C, as document 01's "Order table" has it. The semantics of the language acts through these. Assumes nothing.
+use Prim.Native.Nat.{ℕ, _+_, _-_, _%_}
+use mathlib.Core.Bool.{cond}
+use lib.Dec.{eqb, leb}
+use lib.Bits.{bitAnd, bitXor}
+use Rattle.word.specs.Arithmetic.{flagged, bit, sumOf, differenceOf}
+use Rattle.word.specs.Bytes.{icaOf, calOf, carOf, icrOf, iclOf}
+use Rattle.word.specs.Shift.{shiftOf}
+use Rattle.instruction.specs.Code.{LDA, ANA, ERA, ADD, SUB}
+use Rattle.instruction.specs.Slot.{CRA, CMA, TCA, CHS, SSP, SSM, CSA, CAR, CAL, ICL, AOA, ACA, ICR, ICA}
+use Rattle.effect.specs.declared.Registers.{Registers}
+use Rattle.effect.specs.Registers.{withA, withFlagged}
+
+-- with the operand v. "ADD, SUB, AOA and ACA are modulo 65,536; C becomes 1 exactly on signed overflow, else 0", "The rest leave C"
+unfoldable pub operateOf : ℕ → ℕ → Registers → Registers
+operateOf code v r =
+    cond (eqb code LDA) (withA r v)
+    (cond (eqb code ANA) (withA r (bitAnd (r .a) v))
+    (cond (eqb code ERA) (withA r (bitXor (r .a) v))
+    (cond (eqb code ADD) (withFlagged r (sumOf (r .a) v))
+    (cond (eqb code SUB) (withFlagged r (differenceOf (r .a) v))
+    r))))
+
+-- the generic instructions on A and C
+unfoldable pub unaryOf : ℕ → Registers → Registers
+unaryOf slot r =
+    cond (eqb slot CRA) (withA r 0)
+    (cond (eqb slot CMA) (withA r (65535 - r .a))
+    (cond (eqb slot TCA) (withA r ((65536 - r .a) % 65536))
+    (cond (eqb slot CHS) (withA r ((r .a + 32768) % 65536))
+    (cond (eqb slot SSP) (withA r (r .a % 32768))
+    (cond (eqb slot SSM) (withA r (r .a % 32768 + 32768))
+    -- "CSA copies the sign to C and clears it"
+    (cond (eqb slot CSA) (withFlagged r (flagged (r .a % 32768) (leb 32768 (r .a))))
+    (cond (eqb slot CAR) (withA r (carOf (r .a)))
+    (cond (eqb slot CAL) (withA r (calOf (r .a)))
+    (cond (eqb slot ICL) (withA r (iclOf (r .a)))
+    (cond (eqb slot AOA) (withFlagged r (sumOf (r .a) 1))
+    (cond (eqb slot ACA) (withFlagged r (sumOf (r .a) (bit (r .c))))
+    (cond (eqb slot ICR) (withA r (icrOf (r .a)))
+    (cond (eqb slot ICA) (withA r (icaOf (r .a)))
+    r)))))))))))))
+
+abbrev pub shiftedOf : ℕ → ℕ → Registers → Registers
+shiftedOf kind n r = withFlagged r (shiftOf kind n (r .a) (r .c))

@@ -1,0 +1,30 @@
+-- Which generic instructions skip the next word, as document 01's "Order table" names them. Assumes nothing.
+use Prim.Native.Nat.{ℕ, _%_}
+use mathlib.Core.Bool.{Bool, true, false, cond, not}
+use lib.Dec.{eqb, leb, ltb}
+use Rattle.instruction.specs.Slot.{SKP, SRC, SSC, SS1, SS2, SS3, SS4, SSS, SSR, SZE, SNZ, SPL, SMI, SLZ, SLN}
+use Rattle.effect.specs.declared.Registers.{Registers}
+use Rattle.effect.specs.declared.Switches.{Switches}
+
+-- the sense switches, which document 01 calls keys
+abbrev pub anySwitch : Switches → Bool
+anySwitch s = cond (s .one) true (cond (s .two) true (cond (s .three) true (s .four)))
+
+unfoldable pub skipsOf : ℕ → Registers → Switches → Bool
+skipsOf slot r s =
+    cond (eqb slot SKP) true
+    (cond (eqb slot SRC) (not (r .c))
+    (cond (eqb slot SSC) (r .c)
+    (cond (eqb slot SS1) (s .one)
+    (cond (eqb slot SS2) (s .two)
+    (cond (eqb slot SS3) (s .three)
+    (cond (eqb slot SS4) (s .four)
+    (cond (eqb slot SSS) (anySwitch s)
+    (cond (eqb slot SSR) (not (anySwitch s))
+    (cond (eqb slot SZE) (eqb (r .a) 0)
+    (cond (eqb slot SNZ) (ltb 0 (r .a))
+    (cond (eqb slot SPL) (ltb (r .a) 32768)
+    (cond (eqb slot SMI) (leb 32768 (r .a))
+    (cond (eqb slot SLZ) (eqb (r .a % 2) 0)
+    (cond (eqb slot SLN) (eqb (r .a % 2) 1)
+    false))))))))))))))

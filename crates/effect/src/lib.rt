@@ -1,0 +1,141 @@
+// What the instructions do to the registers A, B and C. Each function equals a definition of specs/, which the semantics of the language
+// uses too.
+ghost use mathlib.Core.Path.{_≡_};
+ghost use Rattle.word.specs.Arithmetic.{bit, sumOf};
+ghost use Rattle.effect.specs.Registers.{withA, withFlagged};
+ghost use Rattle.effect.specs.Effects.{operateOf, unaryOf, shiftedOf};
+ghost use Rattle.effect.specs.Skips.{anySwitch, skipsOf};
+use instruction::code;
+use instruction::slot;
+use word::Flagged;
+
+pub struct Registers {
+    pub a: u16,
+    pub b: u16,
+    pub c: bool,
+}
+
+// The sense switches.
+pub struct Switches {
+    pub one: bool,
+    pub two: bool,
+    pub three: bool,
+    pub four: bool,
+}
+
+fn with_a(r: Registers, a: u16) -> Registers
+    ensures { λ s. ⌜ s ≡ withA r a ⌝ }
+{
+    Registers { a, b: r.b, c: r.c }
+}
+
+fn with_flagged(r: Registers, f: Flagged) -> Registers
+    ensures { λ s. ⌜ s ≡ withFlagged r f ⌝ }
+{
+    Registers {
+        a: f.word,
+        b: r.b,
+        c: f.flag,
+    }
+}
+
+// LDA, ANA, ERA, ADD and SUB with the operand v; any other code changes nothing.
+pub fn operate(code: u16, v: u16, r: Registers) -> Registers
+    ensures { λ s. ⌜ s ≡ operateOf code v r ⌝ }
+{
+    let a = r.a;
+    match code {
+        code::LDA => with_a(r, v),
+        code::ANA => with_a(r, a & v),
+        code::ERA => with_a(r, a ^ v),
+        code::ADD => with_flagged(r, word::sum(a, v)),
+        code::SUB => with_flagged(r, word::difference(a, v)),
+        _ => r,
+    }
+}
+
+// CRA to ICA; any other slot changes nothing.
+pub fn unary(slot: usize, r: Registers) -> Registers
+    ensures { λ s. ⌜ s ≡ unaryOf slot r ⌝ }
+{
+    let a = r.a;
+    match slot {
+        slot::CRA => with_a(r, 0),
+        slot::CMA => with_a(r, 65535 - a),
+        slot::TCA => with_a(r, ((65536 - a as u32) % 65536) as u16),
+        slot::CHS => with_a(r, ((a as u32 + 32768) % 65536) as u16),
+        slot::SSP => with_a(r, a % 32768),
+        slot::SSM => with_a(r, a % 32768 + 32768),
+        slot::CSA => Registers {
+            a: a % 32768,
+            b: r.b,
+            c: 32768 <= a,
+        },
+        slot::CAR => with_a(r, word::bytes::car(a)),
+        slot::CAL => with_a(r, word::bytes::cal(a)),
+        slot::ICL => with_a(r, word::bytes::icl(a)),
+        slot::AOA => with_flagged(r, word::sum(a, 1)),
+        slot::ACA => add_c(r),
+        slot::ICR => with_a(r, word::bytes::icr(a)),
+        slot::ICA => with_a(r, word::bytes::ica(a)),
+        _ => r,
+    }
+}
+
+fn add_c(r: Registers) -> Registers
+    ensures { λ s. ⌜ s ≡ withFlagged r (sumOf (r .a) (bit (r .c))) ⌝ }
+{
+    if r.c {
+        with_flagged(r, word::sum(r.a, 1))
+    } else {
+        with_flagged(r, word::sum(r.a, 0))
+    }
+}
+
+// A shift by n.
+pub fn shifted(kind: u16, n: u16, r: Registers) -> Registers
+    ensures { λ s. ⌜ s ≡ shiftedOf kind n r ⌝ }
+{
+    with_flagged(r, word::shift::shift(kind, n, r.a, r.c))
+}
+
+fn any_switch(s: Switches) -> bool
+    ensures { λ r. ⌜ r ≡ anySwitch s ⌝ }
+{
+    if s.one {
+        return true;
+    }
+    if s.two {
+        return true;
+    }
+    if s.three {
+        return true;
+    }
+    s.four
+}
+
+// Whether SKP to SLN skips; any other slot does not.
+pub fn skips(slot: usize, r: Registers, s: Switches) -> bool
+    ensures { λ t. ⌜ t ≡ skipsOf slot r s ⌝ }
+{
+    let a = r.a;
+    let c = r.c;
+    match slot {
+        slot::SKP => true,
+        slot::SRC => !c,
+        slot::SSC => c,
+        slot::SS1 => s.one,
+        slot::SS2 => s.two,
+        slot::SS3 => s.three,
+        slot::SS4 => s.four,
+        slot::SSS => any_switch(s),
+        slot::SSR => !any_switch(s),
+        slot::SZE => a == 0,
+        slot::SNZ => 0 < a,
+        slot::SPL => a < 32768,
+        slot::SMI => 32768 <= a,
+        slot::SLZ => a % 2 == 0,
+        slot::SLN => a % 2 == 1,
+        _ => false,
+    }
+}

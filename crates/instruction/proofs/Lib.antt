@@ -1,0 +1,5 @@
+mod Every
+pub mod Rows
+pub mod Choice
+pub mod Proper
+pub mod Encoding

@@ -1,0 +1,59 @@
+-- `instruction::encode_memory` meets its contract. Assumes nothing.
+use Rattle.instruction.specs.Encode.{memoryWord}
+use borrow.Author.Needs.{needs}
+use Rattle.instruction.proofs.encode_memory.Statement.{statement}
+use Rattle.instruction.proofs.encode_memory.Tie as tie
+
+flag-requires : tie.Need-flag-requires
+flag-requires c κs = search needs
+
+mul-result : tie.Need-mul-result
+mul-result c = search needs
+
+flag-requires-2 : tie.Need-flag-requires-2
+flag-requires-2 c κs = search needs
+
+mul-result-2 : tie.Need-mul-result-2
+mul-result-2 c = search needs
+
+add-result : tie.Need-add-result
+add-result c = search needs
+
+mul-result-3 : tie.Need-mul-result-3
+mul-result-3 c = search needs
+
+add-result-2 : tie.Need-add-result-2
+add-result-2 c = search needs
+
+flag-requires-3 : tie.Need-flag-requires-3
+flag-requires-3 c κs = search needs
+
+mul-result-4 : tie.Need-mul-result-4
+mul-result-4 c = search needs
+
+add-result-3 : tie.Need-add-result-3
+add-result-3 c = search needs
+
+add-result-4 : tie.Need-add-result-4
+add-result-4 c = search needs
+
+returns : tie.Need-returns
+unfolding memoryWord
+returns c = simp (c .flag3 .ensures .0, c .before .flag2 .ensures .0, c .before .before .flag .ensures .0)
+
+pub encode-memory-spec : {M : Type 1} → statement M
+encode-memory-spec =
+    tie.close
+    (tie.spec
+    flag-requires
+    mul-result
+    flag-requires-2
+    mul-result-2
+    add-result
+    mul-result-3
+    add-result-2
+    flag-requires-3
+    mul-result-4
+    add-result-3
+    add-result-4
+    returns)

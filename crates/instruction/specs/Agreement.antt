@@ -1,0 +1,20 @@
+-- The decoder and the instruction table agree, in both directions. Assumes nothing.
+use Prim.Native.Nat.{ℕ, _<_}
+use mathlib.Core.Path.{_≡_}
+use mathlib.Core.Logic.{_⊎_}
+use Rattle.instruction.specs.declared.Instruction.{Instruction}
+use Rattle.instruction.specs.declared.Instruction.the-variants.{Unknown}
+use Rattle.instruction.specs.Decode.{decodeDef}
+use Rattle.instruction.specs.Encode.{Encodes}
+
+-- a word is unknown exactly if the table has no instruction for it
+pub record UnknownExactly (w : ℕ) : Type 0 where
+  pub no-instruction : decodeDef w ≡ Unknown → (i : Instruction) → Encodes i w → ⊥
+  pub unknown : ((i : Instruction) → Encodes i w → ⊥) → decodeDef w ≡ Unknown
+
+pub record Agreement : Type 0 where
+  -- the word of an instruction decodes to it
+  pub encoded : {i : Instruction} {w : ℕ} → Encodes i w → decodeDef w ≡ i
+  -- a word decodes to an instruction that the table gives it, or to none
+  pub known : (w : ℕ) → w < 65536 → (decodeDef w ≡ Unknown) ⊎ Encodes (decodeDef w) w
+  pub unknown-exactly : (w : ℕ) → w < 65536 → UnknownExactly w

@@ -1,0 +1,58 @@
+-- What instruction a word is, as document 01's "Order table" has it. Assumes nothing.
+use Prim.Native.Nat.{ℕ, _-_, _*_, _/_, _%_}
+use mathlib.Core.Bool.{Bool, true, false, cond}
+use mathlib.Core.List.{List, [], _∷_}
+use lib.Dec.{eqb, leb, ltb}
+use lib.ListN.{getD}
+use Rattle.word.specs.Shift.{LGR, ARR, LGL, ALR}
+use Rattle.instruction.specs.declared.Instruction.{Instruction}
+use Rattle.instruction.specs.declared.Instruction.the-variants.{Memory, Shift, Generic, Unknown}
+use Rattle.instruction.specs.Code.{IRS, LDX}
+use Rattle.instruction.specs.Table.{Row, generics}
+
+-- a generic instruction is the one whose word stands in the table
+unfoldable pub findWord : ℕ → List Row → Instruction
+findWord w [] = Unknown
+findWord w (r ∷ rs) = cond (eqb (r .word) w) (Generic (r .slot)) (findWord w rs)
+
+unfoldable pub genericOf : ℕ → Instruction
+genericOf w = findWord w generics
+
+-- "Shifts, plus 64-n, n 1 to 15: LGR 040400, ARS 040500, ARR 040600, LGL 041400, ALS 041500, ALR 041600"
+abbrev pub isShift : ℕ → Bool
+isShift kind = cond (ltb kind LGR) false (cond (leb kind ARR) true (cond (ltb kind LGL) false (leb kind ALR)))
+
+unfoldable pub shiftOf : ℕ → Instruction
+shiftOf w = cond (ltb (w % 64) 49) Unknown (cond (isShift (w / 64)) (Shift (w / 64) (64 - w % 64)) Unknown)
+
+abbrev pub flagAt : ℕ → ℕ → Bool
+flagAt w bit = eqb (w / bit % 2) 1
+
+abbrev pub codeOf : ℕ → ℕ
+codeOf w = w / 0o2000 % 16
+
+abbrev pub memoryWith : Bool → ℕ → Instruction
+memoryWith tag w = Memory (codeOf w) (leb 0o100000 w) tag (flagAt w 0o1000) (w % 512)
+
+-- "indirect '100000, tag '40000, code times '2000, sector bit '1000, nine address bits": JMP to IRS, and "LDX 15 with its tag set", whose tag adds no X
+unfoldable pub memoryOf : ℕ → Instruction
+memoryOf w =
+    cond (leb (codeOf w) IRS) (memoryWith (flagAt w 0o40000) w)
+    (cond (eqb (codeOf w) LDX) (cond (flagAt w 0o40000) (memoryWith false w) Unknown) Unknown)
+
+-- code 0: a shift or a generic instruction
+abbrev pub decodeBy : (ℕ → Instruction) → ℕ → Instruction
+decodeBy generic w = cond (eqb (codeOf w) 0) (cond (eqb (w / 0o40000) 1) (shiftOf w) (generic w)) (memoryOf w)
+
+unfoldable pub decodeDef : ℕ → Instruction
+decodeDef w = decodeBy genericOf w
+
+-- the decoder, for whatever table it is lent: it looks at one slot. With the table above it is decodeDef (proofs/Rows)
+abbrev pub slotOf : ℕ → ℕ
+slotOf w = w * 6943 / 1024 % 64
+
+unfoldable pub genericIn : List ℕ → ℕ → Instruction
+genericIn table w = cond (eqb (getD table (slotOf w) 0) w) (Generic (slotOf w)) Unknown
+
+unfoldable pub decodeIn : List ℕ → ℕ → Instruction
+decodeIn table w = decodeBy (genericIn table) w

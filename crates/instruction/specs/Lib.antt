@@ -1,0 +1,6 @@
+pub mod Code
+pub mod Slot
+pub mod Table
+pub mod Decode
+pub mod Encode
+pub mod Agreement

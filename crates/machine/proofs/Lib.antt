@@ -1,0 +1,4 @@
+pub mod Chains
+pub mod Ticks
+pub mod Good
+pub mod Turns

@@ -1,0 +1,17 @@
+-- `machine::spent` meets its contract. Assumes nothing.
+use Rattle.machine.proofs.Ticks.{spend-many}
+use native.Mathlib.Omega.{arith}
+use mathlib.Core.Path.{sym, ap, _∙_}
+use Rattle.machine.proofs.Ticks.{at}
+use borrow.Author.Needs.{needs}
+use Rattle.machine.proofs.spent.Statement.{statement}
+use Rattle.machine.proofs.spent.Tie as tie
+
+wrapping-add-u32-requires : tie.Need-wrapping-add-u32-requires
+wrapping-add-u32-requires c κs = search needs
+
+returns : tie.Need-returns
+returns c = ap at (c .wrapping-add-u32 .ensures) ∙ sym (spend-many _ _ _ (omega arith))
+
+pub spent-spec : {M : Type 1} → statement M
+spent-spec = tie.close (tie.spec wrapping-add-u32-requires returns)

@@ -1,0 +1,111 @@
+-- `machine::steps` meets its contract. The loop's invariant: the whole run is i steps more than the run of what is left from the state reached. Assumes nothing.
+use Prim.Native.Nat.{_≤_, _-_}
+use mathlib.Core.Path.{_≡_, refl, sym, ap, subst, _∙_}
+use native.Mathlib.Omega.{arith}
+use borrow.Author.Needs.{needs}
+use lib.ListN.{length}
+use Rattle.machine.specs.State.{state, Good}
+use Rattle.machine.specs.Step.{stepDef, made, failed}
+use Rattle.machine.specs.Run.{runFrom, more}
+use Rattle.machine.proofs.Good.{GoodStep, step-good, step-made, step-failed}
+use Rattle.machine.proofs.Turns.{run-halted, run-spent, run-failed, run-start, run-onward, run-ended}
+use Rattle.machine.proofs.steps.Statement.{statement}
+use Rattle.machine.proofs.steps.Tie as tie
+
+abbrev Inv-loop : tie.InvT-loop
+Inv-loop image₀ k q table budget m₀ i₀ image m i =
+    (runFrom budget (state m₀ image₀) ≡ more i (runFrom (budget - i) (state m image)))
+    × Good (state m image)
+    × (i ≤ budget)
+    × (length image ≡ length image₀)
+
+abbrev μ-loop : tie.MeasureT-loop
+μ-loop image₀ k q table budget m₀ i₀ image m i = budget - i
+
+-- the step that was made, and the one that failed, as the definition has them
+made-step : (c : tie.After-s Inv-loop μ-loop)
+    → stepDef (state (c .before .before .before .before .before .before .before .before .before .loop .m) (c .before .before .before .before .before .before .before .before .before .loop .image)) ≡ made (state (c .s .given .0 .0) (c .before .before .before .before .step .last .1 .0))
+made-step c = step-made _ _ _ (sym (c .before .before .before .before .step .ensures .0) ∙ c .s .given .1) (c .before .before .before .before .step .ensures .1)
+
+failed-step : (c : tie.After-s2 Inv-loop μ-loop)
+    → (stepDef (state (c .before .before .before .before .before .before .before .before .before .loop .m) (c .before .before .before .before .before .before .before .before .before .loop .image)) ≡ failed (c .s2 .given .0 .0)) × (c .before .before .before .before .step .last .1 .0 ≡ c .before .before .before .before .before .before .before .before .before .loop .image)
+failed-step c = step-failed _ _ _ (sym (c .before .before .before .before .step .ensures .0) ∙ c .s2 .given .1) (c .before .before .before .before .step .ensures .1)
+
+table-requires : tie.Need-table-requires Inv-loop μ-loop
+table-requires c κs = tt
+
+loop-holds : tie.Need-loop-holds Inv-loop μ-loop
+loop-holds c = (run-start _ _, c .before .before .pre, omega arith, refl)
+
+ended-requires : tie.Need-ended-requires Inv-loop μ-loop
+ended-requires c κs = tt
+
+same-length : tie.Need-same-length Inv-loop μ-loop
+same-length c = search needs
+
+returns : tie.Need-returns Inv-loop μ-loop
+returns c = rw (run-ended _ _ _ _ (c .before .before .loop .inv .0) (run-halted _ _ (c .before .if1 .taken))) (c .ended .ensures, refl)
+
+ended-requires-2 : tie.Need-ended-requires-2 Inv-loop μ-loop
+ended-requires-2 c κs = tt
+
+same-length-2 : tie.Need-same-length-2 Inv-loop μ-loop
+same-length-2 c = search needs
+
+returns-2 : tie.Need-returns-2 Inv-loop μ-loop
+returns-2 c = rw (run-ended _ _ _ _ (c .before .before .before .loop .inv .0) (run-spent _ _ (c .before .before .if1 .left) (omega arith))) (c .ended2 .ensures, refl)
+
+step-requires : tie.Need-step-requires Inv-loop μ-loop
+step-requires c κs = (c .before .before .before .before .before .table .ensures, c .before .before .before .before .loop .inv .1 .0, c .before .before .before .before .loop .inv .1 .1)
+
+enum-known-s : tie.Need-enum-known-s Inv-loop μ-loop
+enum-known-s c = search needs
+
+enum-known-s-2 : tie.Need-enum-known-s-2 Inv-loop μ-loop
+enum-known-s-2 c = search needs
+
+ended-requires-3 : tie.Need-ended-requires-3 Inv-loop μ-loop
+ended-requires-3 c κs = tt
+
+same-length-3 : tie.Need-same-length-3 Inv-loop μ-loop
+same-length-3 c = ap length (failed-step (c .before .before) .1) ∙ c .before .before .before .before .before .before .before .before .before .before .before .loop .inv .3
+
+returns-3 : tie.Need-returns-3 Inv-loop μ-loop
+returns-3 c = rw (run-ended _ _ _ _ (c .before .before .before .before .before .before .before .before .before .before .before .loop .inv .0) (run-failed _ _ (c .before .before .before .before .before .before .before .before .before .before .if1 .left) (omega arith) (failed-step (c .before .before) .0))) (c .ended3 .ensures, failed-step (c .before .before) .1)
+
+add-i : tie.Need-add-i Inv-loop μ-loop
+add-i c = omega arith
+
+loop-less : tie.Need-loop-less Inv-loop μ-loop
+loop-less c = omega arith
+
+loop-again : tie.Need-loop-again Inv-loop μ-loop
+loop-again c =
+    let l = c .before .before .before .before .before .before .before .before .before .before .loop in
+    let e = made-step (c .before) in
+    let g = subst GoodStep e (step-good (state (l .m) (l .image)) (l .inv .1)) in
+    (run-onward _ _ _ _ (l .inv .0) (c .before .before .before .before .before .before .before .before .before .if1 .left) (omega arith) e, g, omega arith, g .0 ∙ sym (l .inv .1 .0) ∙ l .inv .3)
+
+pub steps-spec : {M : Type 1} → statement M
+steps-spec =
+    tie.close
+    (tie.spec
+    Inv-loop
+    μ-loop
+    table-requires
+    loop-holds
+    ended-requires
+    same-length
+    returns
+    ended-requires-2
+    same-length-2
+    returns-2
+    step-requires
+    enum-known-s
+    enum-known-s-2
+    ended-requires-3
+    same-length-3
+    returns-3
+    add-i
+    loop-less
+    loop-again)

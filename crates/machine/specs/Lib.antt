@@ -1,0 +1,6 @@
+pub mod Failure
+pub mod State
+pub mod Address
+pub mod Step
+pub mod Clock
+pub mod Run

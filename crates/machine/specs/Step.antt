@@ -1,0 +1,77 @@
+-- One step of the machine, as document 01's "Order table" has it. Assumes nothing.
+use Prim.Native.Nat.{ℕ, _+_, _*_, _/_, _%_}
+use mathlib.Core.Bool.{cond}
+use mathlib.Core.List.{List}
+use lib.Dec.{eqb}
+use lib.ListN.{getD, set}
+use Rattle.word.specs.Arithmetic.{bit, compareOf}
+use Rattle.instruction.specs.Code.{JMP, STA, JST, CAS, IRS, LDX}
+use Rattle.instruction.specs.Slot.{HLT}
+use Rattle.instruction.specs.Decode.{decodeDef}
+use Rattle.instruction.specs.declared.Instruction.{Instruction}
+use Rattle.instruction.specs.declared.Instruction.the-variants.{Memory, Shift, Generic, Unknown}
+use Rattle.effect.specs.Effects.{operateOf, unaryOf, shiftedOf}
+use Rattle.effect.specs.Skips.{skipsOf}
+use Rattle.machine.specs.declared.Machine.{Machine}
+use Rattle.machine.specs.declared.address.Address.{Address}
+use Rattle.machine.specs.declared.address.Address.the-variants.{At, Long}
+use Rattle.machine.specs.declared.step.Stepped.{Stepped}
+use Rattle.machine.specs.declared.step.Stepped.the-variants.{Made, Refused}
+use Rattle.machine.specs.Failure.{unknownWord, longChain}
+use Rattle.machine.specs.State.{State, state, atP, withRegisters, stopped}
+use Rattle.machine.specs.Address.{addressOf}
+
+-- P after an instruction that skips k words: "P after a step" is modulo 16,384
+abbrev pub pastOf : ℕ → ℕ → ℕ
+pastOf p k = (p + 1 + k) % 16384
+
+-- on to the k-th word after the next
+abbrev pub onward : Machine → ℕ → Machine
+onward m k = atP m (pastOf (m .p) k)
+
+-- a memory-reference instruction at its effective address e
+unfoldable pub memoryDef : ℕ → ℕ → Machine → List ℕ → State
+memoryDef code e m image =
+    let v = getD image e 0 in
+    cond (eqb code JMP) (state (atP m e) image)
+    (cond (eqb code STA) (state (onward m 0) (set image e (m .registers .a)))
+    -- "JST keeps the target's top two bits"
+    (cond (eqb code JST) (state (atP m (pastOf e 0)) (set image e (v / 16384 * 16384 + pastOf (m .p) 0)))
+    (cond (eqb code CAS) (state (onward m (compareOf (m .registers .a) v)) image)
+    -- "IRS skips on zero"
+    (cond (eqb code IRS) (state (onward m (bit (eqb ((v + 1) % 65536) 0))) (set image e ((v + 1) % 65536)))
+    (cond (eqb code LDX) (state (onward m 0) (set image 0 v))
+    (state (onward (withRegisters m (operateOf code v (m .registers))) 0) image))))))
+
+-- a generic instruction skips, or changes A and C, or neither; "HLT counts; P then points after it"
+unfoldable pub genericDef : ℕ → Machine → Machine
+genericDef slot m =
+    cond (eqb slot HLT) (stopped (onward m 0))
+    (onward (withRegisters m (unaryOf slot (m .registers))) (bit (skipsOf slot (m .registers) (m .switches))))
+
+-- a step made, or a failure's number, which leaves the state as it was
+pub data Step : Type 0 where
+  made : State → Step
+  failed : ℕ → Step
+
+abbrev pub memoryStep : ℕ → Machine → List ℕ → Address → Step
+memoryStep code m image (At e passed) = made (memoryDef code e m image)
+memoryStep code m image Long = failed longChain
+
+abbrev pub perform : Machine → List ℕ → Instruction → Step
+perform m image (Memory code indirect tag sector address) = memoryStep code m image (addressOf image (m .p) indirect tag sector address)
+perform m image (Shift kind n) = made (state (onward (withRegisters m (shiftedOf kind n (m .registers))) 0) image)
+perform m image (Generic slot) = made (state (genericDef slot m) image)
+perform m image Unknown = failed unknownWord
+
+unfoldable pub stepDef : State → Step
+stepDef s = perform (s .machine) (s .image) (decodeDef (getD (s .image) (s .machine .p) 0))
+
+-- what the step's function answers, and the image that it leaves
+abbrev pub answerOf : Step → Stepped
+answerOf (made s) = Made (s .machine)
+answerOf (failed n) = Refused n
+
+abbrev pub imageOf : List ℕ → Step → List ℕ
+imageOf image (made s) = s .image
+imageOf image (failed n) = image

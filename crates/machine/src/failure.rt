@@ -1,0 +1,10 @@
+// The machine's failures by their numbers.
+pub const WRONG_IMAGE: u16 = 1;
+
+pub const UNKNOWN_WORD: u16 = 20;
+
+pub const LONG_CHAIN: u16 = 21;
+
+pub const OVER_BUDGET: u16 = 22;
+
+pub const WRONG_P: u16 = 23;

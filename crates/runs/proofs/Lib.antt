@@ -1,0 +1,5 @@
+pub mod Iteration
+pub mod Refusals
+pub mod Keeping
+pub mod Lists
+pub mod Laws

@@ -1,0 +1,57 @@
+-- The laws of runs, and of lists of them, over the definitions that the machine's function is proved to equal. Assumes nothing.
+use Prim.Native.Nat.{ℕ, suc, _+_, _%_, _^_, _≤_, _<_}
+use mathlib.Core.Path.{_≡_}
+use mathlib.Core.Bool.{true, false}
+use mathlib.Core.List.{List, [], _∷_}
+use Rattle.machine.specs.declared.Clock.{Clock}
+use Rattle.machine.specs.declared.Request.{Request}
+use Rattle.machine.specs.declared.Outcome.the-variants.{Halted, Spent}
+use Rattle.machine.specs.Failure.{refused}
+use Rattle.machine.specs.State.{State, Good}
+use Rattle.machine.specs.Step.{made, stepDef}
+use Rattle.machine.specs.Run.{ran, runFrom, runDef}
+use Rattle.runs.specs.Steps.{Steps}
+use Rattle.runs.specs.Ends.{Ended, RefusedExactly}
+use Rattle.runs.specs.Runs.{runsDef, budgetsOf}
+
+-- q, but for its budget
+abbrev pub withBudget : Request → ℕ → Request
+withBudget q n = record { budget = n }
+
+-- a run of n, then one of m that goes on from what it left, come to the run of n + m: in steps, state (image too) and clock, and in the outcome
+pub record Resumed (q : Request) (n m : ℕ) (s : State) (k : Clock) : Type 0 where
+  pub total : runsDef (withBudget q n ∷ withBudget q m ∷ []) s k ≡ runsDef (withBudget q (n + m) ∷ []) s k
+  pub outcome : runDef (withBudget q m) (runDef (withBudget q n) s .state) .outcome ≡ runDef (withBudget q (n + m)) s .outcome
+
+-- a list of runs is one iteration of the step, for the sum of the budgets not refused; the clock counts its steps
+pub record AsOne (qs : List Request) (s : State) (k : Clock) : Type 0 where
+  pub state : runsDef qs s k .state ≡ runFrom (budgetsOf qs s) s .state
+  pub steps : runsDef qs s k .steps ≡ runFrom (budgetsOf qs s) s .steps
+  pub clock : k .common < 2 ^ 32 → runsDef qs s k .clock .common ≡ (k .common + runsDef qs s k .steps) % 2 ^ 32
+
+pub record RunLaws : Type 0 where
+  -- a run is refused exactly on its cause
+  pub refusals : (q : Request) (s : State) (n : ℕ) → RefusedExactly q s n
+  -- any other run is the iteration of the step up to its budget, from an image of 16,384 words with P in it
+  pub allowed : (q : Request) (s : State) → refused (runDef q s .outcome) ≡ false
+      → Good s × (q .budget ≤ 1000000) × (runDef q s ≡ runFrom (q .budget) s)
+  -- it made the steps that it reports, and ended as its outcome says
+  pub ended : (q : Request) (s : State) → refused (runDef q s .outcome) ≡ false → Ended (q .budget) s (runDef q s)
+  -- "A halted state whose run isn't refused reports halted at any allowed budget, 0 included, unchanged, with 0 steps"
+  pub halted : (q : Request) (s : State) → refused (runDef q s .outcome) ≡ false → s .machine .halted ≡ true → runDef q s ≡ ran 0 Halted s
+  -- P stays below 16,384 and the image keeps its 16,384 words, over every step and every run that is not refused
+  pub step-keeps : (s t : State) → Good s → stepDef s ≡ made t → Good t
+  pub run-keeps : (q : Request) (s : State) → refused (runDef q s .outcome) ≡ false → Good (runDef q s .state)
+  -- a run that is spent can be gone on with, as if it had had both budgets
+  pub resumed : (q : Request) (n m : ℕ) (s : State) (k : Clock) → n + m ≤ 1000000 → runDef (withBudget q n) s .outcome ≡ Spent → Resumed q n m s k
+  -- a list of runs, whatever the requests, refused ones included
+  pub list : (qs : List Request) (s : State) (k : Clock) → AsOne qs s k
+  -- where n steps lead to u, and the budgets not refused add up to n, the list makes just those
+  pub reached : (qs : List Request) (k : Clock) {n : ℕ} {s u : State} → Steps n s u → budgetsOf qs s ≡ n
+      → (runsDef qs s k .state ≡ u) × (runsDef qs s k .steps ≡ n)
+  -- where the step after those n is a halt, and the budgets add up to more than n, the list makes that step too, and no other
+  pub halts : (qs : List Request) (k : Clock) {n : ℕ} {s u t : State} → Steps n s u → u .machine .halted ≡ false → stepDef u ≡ made t
+      → t .machine .halted ≡ true → n < budgetsOf qs s → (runsDef qs s k .state ≡ t) × (runsDef qs s k .steps ≡ suc n)
+  -- where n steps can be made, none a halt, and the budgets add up to no more than n, the list makes every step of the budgets and is not halted
+  pub all-made : (qs : List Request) (k : Clock) {n : ℕ} {s u : State} → Steps n s u → u .machine .halted ≡ false → budgetsOf qs s ≤ n
+      → (runsDef qs s k .state .machine .halted ≡ false) × (runsDef qs s k .steps ≡ budgetsOf qs s)

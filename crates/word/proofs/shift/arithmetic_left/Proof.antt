@@ -1,0 +1,19 @@
+-- `word::shift::arithmetic_left` meets its contract. Assumes nothing.
+use borrow.Author.Needs.{needs}
+use Rattle.word.proofs.shift.arithmetic_left.Statement.{statement}
+use Rattle.word.proofs.shift.arithmetic_left.Tie as tie
+
+sign-changes-requires : tie.Need-sign-changes-requires
+sign-changes-requires c κs = search needs
+
+up-requires : tie.Need-up-requires
+up-requires c κs = search needs
+
+cast-t6 : tie.Need-cast-t6
+cast-t6 c = search needs
+
+returns : tie.Need-returns
+returns c = cc
+
+pub arithmetic-left-spec : {M : Type 1} → statement M
+arithmetic-left-spec = tie.close (tie.spec sign-changes-requires up-requires cast-t6 returns)

@@ -1,0 +1,36 @@
+-- Words of 16 bits are numbers below 65536. Sums, differences and comparisons, as document 01's "Order table" has them.
+-- Assumes nothing.
+use Prim.Native.Nat.{ℕ, _+_, _-_, _%_}
+use mathlib.Core.Bool.{Bool, true, cond}
+use lib.Dec.{eqb, leb, ltb}
+use Rattle.word.specs.declared.Flagged.{Flagged}
+
+-- a word, and the bit that goes to C
+abbrev pub flagged : ℕ → Bool → Flagged
+flagged w c = record { word = w; flag = c }
+
+-- a bit as a number
+abbrev pub bit : Bool → ℕ
+bit b = cond b 1 0
+
+abbrev pub negative : ℕ → Bool
+negative w = leb 32768 w
+
+-- a word's signed value, plus 32768: natural numbers in the order of the signed values
+abbrev pub biased : ℕ → ℕ
+biased w = (w + 32768) % 65536
+
+-- a signed value, given plus 65536, is below -32768 or above 32767
+abbrev pub overflows : ℕ → Bool
+overflows n = cond (ltb n 32768) true (leb 98304 n)
+
+-- "modulo 65,536; C becomes 1 exactly on signed overflow, else 0"
+unfoldable pub sumOf : ℕ → ℕ → Flagged
+sumOf a v = flagged ((a + v) % 65536) (overflows (biased a + biased v))
+
+unfoldable pub differenceOf : ℕ → ℕ → Flagged
+differenceOf a v = flagged ((a + 65536 - v) % 65536) (overflows (biased a + 65536 - biased v))
+
+-- "CAS compares signed: greater skips 0, equal 1, less 2"
+unfoldable pub compareOf : ℕ → ℕ → ℕ
+compareOf a v = cond (ltb (biased v) (biased a)) 0 (cond (eqb (biased a) (biased v)) 1 2)

@@ -1,0 +1,3 @@
+pub mod Arithmetic
+pub mod Bytes
+pub mod Shift
