@@ -15,7 +15,7 @@ use Rattle.instruction.proofs.Proper.{Proper, decode-proper}
 use Rattle.machine.specs.declared.Machine.{Machine}
 use Rattle.machine.specs.declared.address.Address.{Address}
 use Rattle.machine.specs.declared.address.Address.the-variants.{At, Long}
-use Rattle.machine.specs.declared.step.Stepped.the-variants.{Made, Refused}
+use Rattle.machine.specs.declared.step.Stepped.the-variants.{Made, Failed}
 use Rattle.machine.specs.State.{State, state, Good}
 use Rattle.machine.specs.Address.{addressOf}
 use Rattle.machine.specs.Step.{pastOf, memoryDef, genericDef, Step, made, failed, memoryStep, perform, stepDef, answerOf, imageOf}
@@ -70,6 +70,6 @@ pub step-made : (image l : List ℕ) (x : Step) {n : Machine} → answerOf x ≡
 step-made image l (made t) {n} e d = let q : t .machine ≡ n = cc in rw (← q, d)
 step-made image l (failed f) {n} e d = cc
 
-pub step-failed : (image l : List ℕ) (x : Step) {f : ℕ} → answerOf x ≡ Refused f → l ≡ imageOf image x → (x ≡ failed f) × (l ≡ image)
+pub step-failed : (image l : List ℕ) (x : Step) {f : ℕ} → answerOf x ≡ Failed f → l ≡ imageOf image x → (x ≡ failed f) × (l ≡ image)
 step-failed image l (made t) {f} e d = (cc, cc)
 step-failed image l (failed g) {f} e d = (cc, cc)

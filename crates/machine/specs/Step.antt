@@ -16,7 +16,7 @@ use Rattle.machine.specs.declared.Machine.{Machine}
 use Rattle.machine.specs.declared.address.Address.{Address}
 use Rattle.machine.specs.declared.address.Address.the-variants.{At, Long}
 use Rattle.machine.specs.declared.step.Stepped.{Stepped}
-use Rattle.machine.specs.declared.step.Stepped.the-variants.{Made, Refused}
+use Rattle.machine.specs.declared.step.Stepped.the-variants.{Made, Failed}
 use Rattle.machine.specs.Failure.{unknownWord, longChain}
 use Rattle.machine.specs.State.{State, state, atP, withRegisters, stopped}
 use Rattle.machine.specs.Address.{addressOf}
@@ -70,7 +70,7 @@ stepDef s = perform (s .machine) (s .image) (decodeDef (getD (s .image) (s .mach
 -- what the step's function answers, and the image that it leaves
 abbrev pub answerOf : Step → Stepped
 answerOf (made s) = Made (s .machine)
-answerOf (failed n) = Refused n
+answerOf (failed n) = Failed n
 
 abbrev pub imageOf : List ℕ → Step → List ℕ
 imageOf image (made s) = s .image

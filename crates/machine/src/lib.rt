@@ -86,7 +86,7 @@ fn steps(image: &mut [u16], m: Machine, k: Clock, q: Request) -> Report
             Stepped::Made(n) => {
                 m = n;
             }
-            Stepped::Refused(f) => {
+            Stepped::Failed(f) => {
                 return ended(q, i, Outcome::Failed(f), m, k);
             }
         }

@@ -18,7 +18,7 @@ use instruction::slot;
 // A step made, or the failure's number.
 pub enum Stepped {
     Made(Machine),
-    Refused(u16),
+    Failed(u16),
 }
 
 // P after an instruction that skips k words.
@@ -78,7 +78,6 @@ fn memory(image: &mut [u16], m: Machine, code: u16, e: u16) -> Machine
         code::IRS => {
             let w = ((v as u32 + 1) % 65536) as u16;
             image[e as usize] = w;
-            // A branch: the next fetch need not wait for w.
             if w == 0 {
                 n.p = past(p, 1);
                 n
@@ -129,7 +128,7 @@ pub fn step(table: &[u16; 64], image: &mut [u16], m: Machine) -> Stepped
             let found = address::follow(&*image, indirect, first);
             match found {
                 Address::At(e, _) => Stepped::Made(memory(&mut *image, m, code, e)),
-                Address::Long => Stepped::Refused(failure::LONG_CHAIN),
+                Address::Long => Stepped::Failed(failure::LONG_CHAIN),
             }
         }
         Instruction::Shift { kind, amount } => {
@@ -137,6 +136,6 @@ pub fn step(table: &[u16; 64], image: &mut [u16], m: Machine) -> Stepped
             Stepped::Made(advance(m, effect::shifted(kind, amount, r), 0))
         }
         Instruction::Generic(slot) => Stepped::Made(generic(m, slot)),
-        Instruction::Unknown => Stepped::Refused(failure::UNKNOWN_WORD),
+        Instruction::Unknown => Stepped::Failed(failure::UNKNOWN_WORD),
     }
 }

@@ -1,0 +1,152 @@
+// The limits of the machine in document 01, by name: each case prints what came out.
+use effect::Registers;
+use effect::Switches;
+use image::CHAIN;
+use image::LONG;
+use image::LOOP;
+use image::NOPS;
+use image::UNKNOWN;
+use machine::Clock;
+use machine::Machine;
+use machine::Report;
+use machine::Request;
+ghost use Prim.Native.Nat.{_≤_};
+
+mod image;
+mod kept;
+mod print;
+
+// Two steps before the clock wraps.
+const CLOCK: u32 = 4294967294;
+
+fn machine_at(p: u16, halted: bool) -> Machine {
+    Machine {
+        registers: Registers {
+            a: 0o12345,
+            b: 0o54321,
+            c: true,
+        },
+        p,
+        switches: Switches {
+            one: true,
+            two: false,
+            three: true,
+            four: false,
+        },
+        halted,
+    }
+}
+
+fn print_report(name: &[u8], r: Report, kept: bool) {
+    let o = r.outcome;
+    print::text(name);
+    print::outcome(o);
+    print::decimal(r.steps);
+    if kept {
+        print::text(b" steps, state kept, P ");
+    } else {
+        print::text(b" steps, state changed, P ");
+    }
+    print::decimal(r.machine.p as u32);
+    print::text(b", clock ");
+    print::decimal(r.clock.common);
+    print::text(b"\n");
+}
+
+// A run on an image of so many words.
+fn attempt(name: &[u8], words: usize, p: u16, halted: bool, budget: u32)
+    requires { ⌜ words ≤ 16385 ⌝ }
+{
+    let mut image = [0u16; 16385];
+    image::lay(&mut image);
+    let before = image;
+    let m = machine_at(p, halted);
+    let clock = Clock { common: CLOCK };
+    let request = Request { budget };
+    let r = machine::run(&mut image[..words], m, clock, request);
+    let n = r.machine;
+    let mut kept = kept::same_machine(m, n);
+    if !kept::same_image(&before, &image) {
+        kept = false;
+    }
+    print_report(name, r, kept);
+}
+
+fn images() {
+    attempt(b"image of 0 words", 0, LOOP, false, 10);
+    attempt(b"image of 16383 words", 16383, LOOP, false, 10);
+    attempt(b"image of 16384 words", 16384, LOOP, false, 10);
+    attempt(b"image of 16385 words", 16385, LOOP, false, 10);
+}
+
+fn budgets() {
+    attempt(b"budget 0", 16384, LOOP, false, 0);
+    attempt(b"budget 1000000", 16384, LOOP, false, 1000000);
+    attempt(b"budget 1000001", 16384, LOOP, false, 1000001);
+}
+
+fn counters() {
+    attempt(b"P 16383", 16384, 16383, false, 10);
+    attempt(b"P 16384", 16384, 16384, false, 10);
+    attempt(b"P 65535", 16384, 65535, false, 10);
+}
+
+fn halts() {
+    attempt(b"halted, budget 0", 16384, LOOP, true, 0);
+    attempt(b"halted, budget 1000000", 16384, LOOP, true, 1000000);
+    attempt(b"halted, budget 1000001", 16384, LOOP, true, 1000001);
+    attempt(b"halted, P 16384", 16384, 16384, true, 10);
+    attempt(b"halted, image of 16383 words", 16383, LOOP, true, 10);
+}
+
+fn order() {
+    attempt(b"wrong image, P and budget", 16383, 16384, false, 1000001);
+    attempt(b"wrong image and P", 16383, 16384, false, 10);
+    attempt(b"wrong image and budget", 16383, LOOP, false, 1000001);
+    attempt(b"wrong P and budget", 16384, 16384, false, 1000001);
+}
+
+fn failures() {
+    attempt(b"16 indirect words", 16384, CHAIN, false, 10);
+    attempt(b"17 indirect words", 16384, LONG + 1, false, 10);
+    attempt(b"17 indirect words after a step", 16384, LONG, false, 10);
+    attempt(b"17 indirect words not reached", 16384, LONG, false, 1);
+    attempt(b"no instruction", 16384, UNKNOWN + 1, false, 10);
+    attempt(b"no instruction after a step", 16384, UNKNOWN, false, 10);
+    attempt(b"no instruction not reached", 16384, UNKNOWN, false, 1);
+}
+
+fn clocks() {
+    attempt(b"clock up to the last", 16384, NOPS, false, 1);
+    attempt(b"clock at zero", 16384, NOPS, false, 2);
+    attempt(b"clock through zero", 16384, NOPS, false, 10);
+}
+
+fn deadline(name: &[u8], clock: u32, deadline: u32) {
+    print::text(name);
+    if machine::due(Clock { common: clock }, deadline) {
+        print::text(b": due\n");
+    } else {
+        print::text(b": not due\n");
+    }
+}
+
+fn deadlines() {
+    deadline(b"clock at the deadline", 1000, 1000);
+    deadline(b"clock 2^31 - 1 after it", 2147484647, 1000);
+    deadline(b"clock 2^31 after it", 2147484648, 1000);
+    deadline(b"deadline one ahead", 999, 1000);
+    deadline(b"deadline 4294967290, clock 5", 5, 4294967290);
+    deadline(b"deadline 5, clock 4294967290", 4294967290, 5);
+}
+
+fn main() {
+    images();
+    budgets();
+    counters();
+    halts();
+    order();
+    failures();
+    clocks();
+    deadlines();
+}

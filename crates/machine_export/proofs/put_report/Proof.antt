@@ -1,0 +1,50 @@
+-- `machine_export::put_report` meets its contract: a store for each number, none of which changes the length. Assumes nothing.
+use mathlib.Core.Path.{refl}
+use native.Mathlib.Omega.{arith}
+use lib.ListN.{length-set}
+use Rattle.machine_export.specs.Export.{storeFrom, withReport}
+use borrow.Author.Needs.{needs}
+use Rattle.machine_export.proofs.put_report.Statement.{statement}
+use Rattle.machine_export.proofs.put_report.Tie as tie
+
+put-machine-requires : tie.Need-put-machine-requires
+put-machine-requires c κs = search needs
+
+slice-write-words : tie.Need-slice-write-words
+slice-write-words c = search needs
+
+outcome-requires : tie.Need-outcome-requires
+outcome-requires c κs = search needs
+
+slice-write-words-2 : tie.Need-slice-write-words-2
+slice-write-words-2 c = search needs
+
+failure-requires : tie.Need-failure-requires
+failure-requires c κs = search needs
+
+slice-write-words-3 : tie.Need-slice-write-words-3
+slice-write-words-3 c = simp length-set (omega arith)
+
+slice-write-words-4 : tie.Need-slice-write-words-4
+slice-write-words-4 c = simp length-set (omega arith)
+
+same-length : tie.Need-same-length
+same-length c = search needs
+
+returns : tie.Need-returns
+unfolding withReport storeFrom
+returns c = rw (c .failure .ensures, c .before .outcome .ensures, c .before .before .before .before .put-machine .ensures) refl
+
+pub put-report-spec : {M : Type 1} → statement M
+put-report-spec =
+    tie.close
+    (tie.spec
+    put-machine-requires
+    slice-write-words
+    outcome-requires
+    slice-write-words-2
+    failure-requires
+    slice-write-words-3
+    slice-write-words-4
+    same-length
+    returns)
