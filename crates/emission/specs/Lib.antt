@@ -1,0 +1,5 @@
+pub mod Map
+pub mod Compile
+pub mod Listing
+pub mod Computed
+pub mod Examples

@@ -1,0 +1,5 @@
+pub mod Spans
+pub mod LaidBy
+pub mod Words
+pub mod Bodies
+pub mod Reach

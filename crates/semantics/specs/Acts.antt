@@ -1,0 +1,100 @@
+-- The acts of the semantics, each one step, by the machine's own effects: "Loads, unary words, operators, shifts, tests and stores act .. in the laid words' order, each as its order does". Assumes nothing.
+use Prim.Native.Nat.{ℕ, suc, _+_, _-_, _%_}
+use mathlib.Core.Bool.{Bool, true, false, cond}
+use mathlib.Core.List.{List, [], _∷_}
+use native.Mathlib.Decide.{ℕ-discrete}
+use lib.Dec.{eqb, leb, ltb}
+use Rattle.effect.specs.declared.Registers.{Registers}
+use Rattle.effect.specs.Effects.{operateOf, unaryOf, shiftedOf}
+use Rattle.effect.specs.Skips.{skipsOf}
+use Rattle.instruction.specs.Slot.{SPL, TCA}
+use Rattle.syntax.specs.Tree.{Id, Array, Operand, Subscript, Cell, CellId, sameCell}
+use Rattle.semantics.specs.Trace.{State, Trace, bind}
+
+-- with other registers, or with a cell changed, a step later
+abbrev pub withRegisters : State → Registers → State
+withRegisters σ r = record { cells = σ .cells; registers = r; switches = σ .switches; steps = suc (σ .steps) }
+
+unfoldable pub updated : (CellId → ℕ) → CellId → ℕ → CellId → ℕ
+updated cells i v j = cond (sameCell i j) v (cells j)
+
+abbrev pub store : CellId → ℕ → State → State
+store i v σ = record { cells = updated (σ .cells) i v; registers = σ .registers; switches = σ .switches; steps = suc (σ .steps) }
+
+-- a step that changes nothing: a skip, a NOP, a jump
+abbrev pub tick : State → State
+tick σ = withRegisters σ (σ .registers)
+
+abbrev pub xCell : CellId
+xCell = CellId.named Id.x
+
+-- ---- Cells
+
+-- where an operand's value is: in a cell, or in the source
+pub data Place : Type 0 where
+  held : CellId → Place
+  worth : ℕ → Place
+
+unfoldable pub placeOf : Operand → Place
+placeOf (Operand.named i) = Place.held (CellId.named i)
+placeOf (Operand.literal v) = Place.worth v
+
+unfoldable pub valueOf : Place → State → ℕ
+valueOf (Place.held i) σ = σ .cells i
+valueOf (Place.worth v) σ = v
+
+-- LDX
+abbrev pub loadX : ℕ → State → State
+loadX v σ = store xCell v σ
+
+unfoldable pub subscripted : Subscript → State → State
+subscripted (Subscript.by o) σ = loadX (valueOf (placeOf o) σ) σ
+subscripted Subscript.hash σ = σ
+
+-- "subscripts -size to -1"
+unfoldable pub isInside : Array → ℕ → Bool
+isInside a v = cond (leb (65536 - a .size) v) (ltb v 65536) false
+
+-- "A subscript outside its array breaks the meaning off where its LDX stands, or for `#` would stand, X loaded"
+unfoldable pub element : Array → State → Trace CellId
+element a σ = cond (isInside a (σ .cells xCell)) (Trace.done (CellId.element (a .number) (σ .cells xCell)) σ) (Trace.broke σ)
+
+unfoldable pub asPlace : CellId → State → Trace Place
+asPlace i σ = Trace.done (Place.held i) σ
+
+unfoldable pub reach : Cell → State → Trace Place
+reach (Cell.plain o) σ = Trace.done (placeOf o) σ
+reach (Cell.item a s) σ = bind (element a (subscripted s σ)) asPlace
+
+-- ---- What is done with them
+
+unfoldable pub operate : ℕ → Place → State → Trace (Unit {0})
+operate code p σ = Trace.done tt (withRegisters σ (operateOf code (valueOf p σ) (σ .registers)))
+
+unfoldable pub storeA : CellId → State → Trace (Unit {0})
+storeA i σ = Trace.done tt (store i (σ .registers .a) σ)
+
+unfoldable pub setX : Place → State → Trace (Unit {0})
+setX p σ = Trace.done tt (loadX (valueOf p σ) σ)
+
+abbrev pub generic : ℕ → State → State
+generic slot σ = withRegisters σ (unaryOf slot (σ .registers))
+
+-- ".ABS SPL TCA": TCA is skipped if A is not negative
+unfoldable pub absolute : State → State
+absolute σ = cond (skipsOf SPL (σ .registers) (σ .switches)) (tick σ) (generic TCA (tick σ))
+
+abbrev pub shifted : ℕ → ℕ → State → State
+shifted kind n σ = withRegisters σ (shiftedOf kind n (σ .registers))
+
+-- a test that skips the `JMP false` where it holds
+unfoldable pub test : ℕ → State → Trace Bool
+test slot σ = cond (skipsOf slot (σ .registers) (σ .switches)) (Trace.done true (tick σ)) (Trace.done false (tick (tick σ)))
+
+-- one more step: the JMP of a loop or of an `.IF`, the `JMP*` of a return
+unfoldable pub jump : Unit {0} → State → Trace (Unit {0})
+jump u σ = Trace.done tt (tick σ)
+
+-- "A `.FOR` adds one modulo 65,536 to its counter after the body and stops at zero": whether it goes on
+unfoldable pub counted : CellId → Unit {0} → State → Trace Bool
+counted i u σ = let v = (σ .cells i + 1) % 65536 in cond (eqb v 0) (Trace.done false (store i v σ)) (Trace.done true (store i v σ))

@@ -1,0 +1,121 @@
+-- Demand 3: what every list of runs of a loaded machine shows of the meaning. Assumes nothing.
+use Prim.Native.Nat.{ℕ, zero, suc, _≤_, _<_}
+use mathlib.Core.Path.{_≡_}
+use mathlib.Core.Bool.{true, false}
+use mathlib.Core.List.{List, List·Memᴰ}
+use lib.ListN.{length, getD}
+use Rattle.machine.specs.declared.Clock.{Clock}
+use Rattle.machine.specs.declared.Request.{Request}
+use Rattle.machine.specs.State as machine
+use Rattle.runs.specs.Runs.{Total, runsDef, budgetsOf}
+use Rattle.syntax.specs.Tree.{CellId, Program}
+use Rattle.emission.specs.Map.{Word, mapOf}
+use Rattle.emission.specs.Compile.{Compiled, Result, compileDef}
+use Rattle.semantics.specs.Trace.{State, Trace}
+use Rattle.semantics.specs.Meaning.{meaning}
+use Rattle.semantics.specs.Variables.{variablesOf, constantsOf}
+
+-- ---- A loaded machine
+
+-- a word of memory, by what the map says that it is for: variables and constants have the start's values, every other word is the image's
+abbrev pub Holds : State → Word → ℕ → Type 0
+Holds σ (Word.fixed w) word = word ≡ w
+Holds σ (Word.cell i v) word = word ≡ σ .cells i
+Holds σ (Word.link p) word = word ≡ 0
+Holds σ Word.free word = word ≡ 0
+
+-- "its image loaded, its integers and array cells, A, B, C, X and keys given any values, and the machine set at the entry"
+pub record Loaded (c : Compiled) (σ : State) (s : machine.State) : Type 0 where
+  pub size : length (s .image) ≡ 16384
+  pub words : (k : ℕ) → getD (s .image) k 0 < 65536
+  pub image : (k : ℕ) → k < 16384 → Holds σ (getD (mapOf (c .program)) k Word.free) (getD (s .image) k 0)
+  pub constants : (i : CellId) (v : ℕ) → List·Memᴰ (i, v) (constantsOf (c .program)) → σ .cells i ≡ v
+  pub registers : s .machine .registers ≡ σ .registers
+  pub a-word : σ .registers .a < 65536
+  pub b-word : σ .registers .b < 65536
+  pub switches : s .machine .switches ≡ σ .switches
+  pub entry : s .machine .p ≡ c .entry
+  pub running : s .machine .halted ≡ false
+  pub begins : σ .steps ≡ 0
+
+-- "the variables, A, B, C and X are those that the meaning has"
+pub record Shows (p : Program) (σ : State) (s : machine.State) : Type 0 where
+  pub registers : s .machine .registers ≡ σ .registers
+  pub cells : (k : ℕ) (i : CellId) (v : ℕ) → k < 16384 → getD (mapOf p) k Word.free ≡ Word.cell i v → getD (s .image) k 0 ≡ σ .cells i
+
+-- the one word where a cell stands
+pub record Home (p : Program) (i : CellId) : Type 0 where
+  pub at : ℕ
+  pub value : ℕ
+  pub below : at < 16384
+  pub here : getD (mapOf p) at Word.free ≡ Word.cell i value
+  pub only : (k v : ℕ) → k < 16384 → getD (mapOf p) k Word.free ≡ Word.cell i v → k ≡ at
+
+-- ---- Traces
+
+-- m is observed
+pub data Observes {A : Type 0} (m : State) : Trace A → Type 0 where
+  here : {t : Trace A} → Observes m (Trace.observe m t)
+  later : {n : State} {t : Trace A} → Observes m t → Observes m (Trace.observe n t)
+
+-- the meaning ends in τ; breaks off in τ; runs out of fuel in τ
+pub data Ends {A : Type 0} (τ : State) : Trace A → Type 0 where
+  here : {a : A} → Ends τ (Trace.done a τ)
+  later : {n : State} {t : Trace A} → Ends τ t → Ends τ (Trace.observe n t)
+
+pub data Breaks {A : Type 0} (τ : State) : Trace A → Type 0 where
+  here : Breaks τ (Trace.broke τ)
+  later : {n : State} {t : Trace A} → Breaks τ t → Breaks τ (Trace.observe n t)
+
+pub data RunsOut {A : Type 0} (τ : State) : Trace A → Type 0 where
+  here : RunsOut τ (Trace.out τ)
+  later : {n : State} {t : Trace A} → RunsOut τ t → RunsOut τ (Trace.observe n t)
+
+-- the first trace is a beginning of the second: it ran out of fuel, or they are the same
+pub data Begins {A : Type 0} : Trace A → Trace A → Type 0 where
+  at-out : {τ : State} {t : Trace A} → Begins (Trace.out τ) t
+  at-done : {a : A} {τ : State} → Begins (Trace.done a τ) (Trace.done a τ)
+  at-broke : {τ : State} → Begins (Trace.broke τ) (Trace.broke τ)
+  at-observe : {m : State} {t u : Trace A} → Begins t u → Begins (Trace.observe m t) (Trace.observe m u)
+
+-- the numbers of steps never fall, from a number on
+abbrev pub Rising : {A : Type 0} → ℕ → Trace A → Type 0
+Rising low (Trace.done a τ) = low ≤ τ .steps
+Rising low (Trace.broke τ) = low ≤ τ .steps
+Rising low (Trace.out τ) = low ≤ τ .steps
+Rising low (Trace.observe m t) = (low ≤ m .steps) × Rising (m .steps) t
+
+-- ---- The statement
+
+-- the runs come to the meaning's state τ: "just so many steps are made, none a halt"
+pub record Meets (p : Program) (τ : State) (t : Total) : Type 0 where
+  pub steps : t .steps ≡ τ .steps
+  pub running : t .state .machine .halted ≡ false
+  pub shows : Shows p τ (t .state)
+
+-- "the list halts exactly when the meaning ends and those budgets add up to more than its last number, one step after it, in the same final values; where it doesn't halt, every step of those budgets is made"
+pub data Fate (p : Program) (σ : State) (s : machine.State) (qs : List Request) (k : Clock) : Type 0 where
+  halts : (f : ℕ) (τ : State) → Ends τ (meaning f p σ) → τ .steps < budgetsOf qs s → runsDef qs s k .state .machine .halted ≡ true
+      → runsDef qs s k .steps ≡ suc (τ .steps) → Shows p τ (runsDef qs s k .state) → Fate p σ s qs k
+  goes-on : ((f : ℕ) (τ : State) → Ends τ (meaning f p σ) → budgetsOf qs s ≤ τ .steps) → runsDef qs s k .state .machine .halted ≡ false
+      → runsDef qs s k .steps ≡ budgetsOf qs s → Fate p σ s qs k
+
+pub record Agrees (p : Program) (σ : State) (s : machine.State) : Type 0 where
+  -- there is one meaning: more fuel only extends what less fuel shows
+  pub steady : (f g : ℕ) → f ≤ g → Begins (meaning f p σ) (meaning g p σ)
+  -- fuel f shows everything below f steps, so that no statement's end is left out
+  pub complete : (f : ℕ) (τ : State) → RunsOut τ (meaning f p σ) → f ≤ τ .steps
+  -- each statement's end has a number of steps, "in order"
+  pub rising : (f : ℕ) → Rising 0 (meaning f p σ)
+  -- every variable that is declared has one home, where the machine is said to show it
+  pub homes : (i : CellId) → List·Memᴰ i (variablesOf p) → Home p i
+  -- "if the budgets not refused add up to such a number, just so many steps are made, none a halt, and the variables, A, B, C and X are those that the meaning has after that statement"
+  pub observed : (f : ℕ) (m : State) → Observes m (meaning f p σ) → (qs : List Request) (k : Clock) → budgetsOf qs s ≡ m .steps → Meets p m (runsDef qs s k)
+  -- where the meaning breaks off, the machine is still running, X loaded
+  pub broken : (f : ℕ) (τ : State) → Breaks τ (meaning f p σ) → (qs : List Request) (k : Clock) → budgetsOf qs s ≡ τ .steps → Meets p τ (runsDef qs s k)
+  -- "If no such subscript is used"
+  pub fate : ((f : ℕ) (τ : State) → Breaks τ (meaning f p σ) → ⊥) → (qs : List Request) (k : Clock) → Fate p σ s qs k
+
+-- "Suppose a recipe is accepted, its image loaded .."
+unfoldable pub Demand3 : Type 0
+Demand3 = (source : List ℕ) (c : Compiled) → compileDef source ≡ Result.accepted c → (σ : State) (s : machine.State) → Loaded c σ s → Agrees (c .program) σ s

@@ -1,0 +1,5 @@
+pub mod Trace
+pub mod Acts
+pub mod Meaning
+pub mod Variables
+pub mod Agreement

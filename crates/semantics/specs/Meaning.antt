@@ -1,0 +1,227 @@
+-- The semantics (document 01's "Meaning"): it is fed a program and start values and knows no addresses. Each form is one definition, with the meanings of its parts as parameters;
+-- expression, condition and statement call each other with the nesting left falling, as parsing does. Assumes nothing.
+use Prim.Native.Nat.{ℕ, zero, suc, _+_}
+use mathlib.Core.Bool.{Bool, true, false, cond}
+use mathlib.Core.List.{List, [], _∷_}
+use lib.Dec.{eqb}
+use Rattle.word.specs.Arithmetic.{compareOf}
+use Rattle.instruction.specs.Code.{LDA}
+use Rattle.instruction.specs.Slot.{CRA, CMA, TCA, CHS, SSP, SSM, CSA, CAR, CAL, ICL, AOA, ACA, ICR, ICA}
+use Rattle.syntax.specs.Tree.{Id, CellId, Unary, Operation, Relation, Expr, Term, Cond, Target, Stmt, Stmts, Item, Declaration, Program}
+use Rattle.syntax.specs.Emission.{operatorCode, shiftKind, testSlot, bareSlot}
+use Rattle.semantics.specs.Trace.{State, Trace, bind, next, ended}
+use Rattle.semantics.specs.Acts.{Place, valueOf, tick, xCell, store, element, subscripted, reach, operate, storeA, setX, generic, absolute, shifted, test, jump, counted}
+
+-- ---- Expressions
+
+unfoldable pub unaryOn : Unary → State → State
+unaryOn Unary.addc σ = generic ACA σ
+unaryOn Unary.inc σ = generic AOA σ
+unaryOn Unary.neg σ = generic TCA σ
+unaryOn Unary.ssp σ = generic SSP σ
+unaryOn Unary.ssm σ = generic SSM σ
+unaryOn Unary.chs σ = generic CHS σ
+unaryOn Unary.csa σ = generic CSA σ
+unaryOn Unary.not σ = generic CMA σ
+unaryOn Unary.icleft σ = generic ICL σ
+unaryOn Unary.cleft σ = generic CAL σ
+unaryOn Unary.swop σ = generic ICA σ
+unaryOn Unary.icright σ = generic ICR σ
+unaryOn Unary.cright σ = generic CAR σ
+unaryOn Unary.abs σ = absolute σ
+
+-- "right to left"
+unfoldable pub unariesOn : List Unary → State → State
+unariesOn [] σ = σ
+unariesOn (u ∷ us) σ = unaryOn u (unariesOn us σ)
+
+unfoldable pub operationOn : Operation → State → Trace (Unit {0})
+operationOn (Operation.binary o c) σ = bind (reach c σ) (operate (operatorCode o))
+operationOn (Operation.shift s n) σ = Trace.done tt (shifted (shiftKind s) n σ)
+
+-- "left to right"
+unfoldable pub operationsOn : List Operation → State → Trace (Unit {0})
+operationsOn [] σ = Trace.done tt σ
+operationsOn (o ∷ os) σ = bind (operationOn o σ) (next (operationsOn os))
+
+-- the meanings of the procedures, by their numbers
+abbrev pub Procedures : Type 0
+Procedures = ℕ → State → Trace (Unit {0})
+
+-- `JST*`, the procedure's statements, `JMP*`
+unfoldable pub called : Procedures → ℕ → State → Trace (Unit {0})
+called procedures p σ = bind (procedures p (tick σ)) jump
+
+-- the part that a test chooses
+unfoldable pub chosen : {B : Type 0} → (State → Trace B) → (State → Trace B) → Bool → State → Trace B
+chosen f g true σ = f σ
+chosen f g false σ = g σ
+
+-- ---- Conditions
+
+-- how A stands to the operand, by how many words CAS skips
+pub data Order : Type 0 where
+  greater equal less : Order
+
+unfoldable pub orderOf : ℕ → Order
+orderOf zero = Order.greater
+orderOf (suc zero) = Order.equal
+orderOf (suc (suc n)) = Order.less
+
+unfoldable pub holds : Relation → Order → Bool
+holds Relation.equal Order.greater = false
+holds Relation.equal Order.equal = true
+holds Relation.equal Order.less = false
+holds Relation.notEqual Order.greater = true
+holds Relation.notEqual Order.equal = false
+holds Relation.notEqual Order.less = true
+holds Relation.less Order.greater = false
+holds Relation.less Order.equal = false
+holds Relation.less Order.less = true
+holds Relation.greater Order.greater = true
+holds Relation.greater Order.equal = false
+holds Relation.greater Order.less = false
+holds Relation.atMost Order.greater = false
+holds Relation.atMost Order.equal = true
+holds Relation.atMost Order.less = true
+holds Relation.atLeast Order.greater = true
+holds Relation.atLeast Order.equal = true
+holds Relation.atLeast Order.less = false
+
+-- how many of the words after the CAS are done: SKP, NOP, JMP
+unfoldable pub wordsAfter : Relation → Order → ℕ
+wordsAfter Relation.equal Order.greater = 2
+wordsAfter Relation.equal Order.equal = 1
+wordsAfter Relation.equal Order.less = 1
+wordsAfter Relation.notEqual Order.greater = 1
+wordsAfter Relation.notEqual Order.equal = 1
+wordsAfter Relation.notEqual Order.less = 0
+wordsAfter Relation.less Order.greater = 2
+wordsAfter Relation.less Order.equal = 1
+wordsAfter Relation.less Order.less = 0
+wordsAfter Relation.greater Order.greater = 1
+wordsAfter Relation.greater Order.equal = 2
+wordsAfter Relation.greater Order.less = 1
+wordsAfter Relation.atMost Order.greater = 1
+wordsAfter Relation.atMost Order.equal = 1
+wordsAfter Relation.atMost Order.less = 0
+wordsAfter Relation.atLeast Order.greater = 2
+wordsAfter Relation.atLeast Order.equal = 1
+wordsAfter Relation.atLeast Order.less = 1
+
+unfoldable pub ticks : ℕ → State → State
+ticks zero σ = σ
+ticks (suc n) σ = ticks n (tick σ)
+
+-- CAS and the words after it
+unfoldable pub related : Relation → Place → State → Trace Bool
+related r p σ = let o = orderOf (compareOf (σ .registers .a) (valueOf p σ)) in Trace.done (holds r o) (ticks (wordsAfter r o) (tick σ))
+
+-- ---- Parts of statements
+
+-- "`.WHILE` its body while the test holds": the JMP back is a step; as many turns as there is fuel
+unfoldable pub whileTurns : ℕ → (State → Trace Bool) → (State → Trace (Unit {0})) → State → Trace (Unit {0})
+whileTurns zero c body σ = Trace.out σ
+whileTurns (suc fuel) c body σ =
+    bind (c σ) (chosen (λ τ. bind (body τ) (λ _ υ. whileTurns fuel c body (tick υ))) (λ τ. Trace.done tt τ))
+
+-- "A `.FOR` adds one modulo 65,536 to its counter after the body and stops at zero"
+unfoldable pub forTurns : ℕ → CellId → (State → Trace (Unit {0})) → State → Trace (Unit {0})
+forTurns zero i body σ = Trace.out σ
+forTurns (suc fuel) i body σ =
+    bind (bind (body σ) (counted i)) (chosen (λ τ. forTurns fuel i body (tick τ)) (λ τ. Trace.done tt τ))
+
+unfoldable pub assigned : Target → State → Trace (Unit {0})
+assigned (Target.integer i) σ = storeA (CellId.named i) σ
+assigned (Target.item a s) σ = bind (element a (subscripted s σ)) storeA
+
+-- "statements parted by `;`", one after the other
+unfoldable pub stmtsBy : (Stmt → State → Trace (Unit {0})) → Stmts → State → Trace (Unit {0})
+stmtsBy stmt (Stmts.one s) σ = stmt s σ
+stmtsBy stmt (Stmts.more ss s) σ = bind (stmtsBy stmt ss σ) (next (stmt s))
+
+module _ (procedures : Procedures) where
+  -- `inner` is the meaning of an expression that is one level deeper
+  unfoldable pub termBy : (Expr → State → Trace (Unit {0})) → Term → State → Trace (Unit {0})
+  termBy inner (Term.cell c) σ = bind (reach c σ) (operate LDA)
+  termBy inner Term.accumulator σ = Trace.done tt σ
+  termBy inner Term.zero σ = Trace.done tt (generic CRA σ)
+  termBy inner (Term.bracket e) σ = inner e σ
+  termBy inner (Term.call p) σ = called procedures p σ
+  termBy inner (Term.callWith p e) σ = bind (inner e σ) (next (called procedures p))
+
+  unfoldable pub condBy : (Expr → State → Trace (Unit {0})) → Cond → State → Trace Bool
+  condBy expr (Cond.relation r e c) σ = bind (expr e σ) (λ _ τ. bind (reach c τ) (related r))
+  condBy expr (Cond.test t e) σ = bind (expr e σ) (next (test (testSlot t)))
+  condBy expr (Cond.bare b) σ = test (bareSlot b) σ
+
+  -- the JMP end of the first part is a step
+  unfoldable pub exprBy : (Expr → State → Trace (Unit {0})) → Expr → State → Trace (Unit {0})
+  exprBy inner (Expr.chain us t os) σ = bind (termBy inner t σ) (λ _ τ. operationsOn os (unariesOn us τ))
+  exprBy inner (Expr.choose c s t) σ = bind (condBy inner c σ) (chosen (λ τ. bind (inner s τ) jump) (inner t))
+
+  -- a part with no level of nesting left: no source that is accepted has one, but for empty statements
+  abbrev pub tooDeep : {A : Type 0} → A → State → Trace (Unit {0})
+  tooDeep part σ = Trace.out σ
+
+  -- with `left` levels of nesting left, its own among them
+  unfoldable pub exprAt : ℕ → Expr → State → Trace (Unit {0})
+  exprAt zero e σ = tooDeep e σ
+  exprAt (suc left) e σ = exprBy (exprAt left) e σ
+
+  -- ---- Statements
+
+  module _ (fuel : ℕ) where
+    -- a statement without its end's observation; `expr` is the meaning of its own expressions, `inner` that of the statements in it
+    unfoldable pub bodyBy : (Expr → State → Trace (Unit {0})) → (Stmt → State → Trace (Unit {0})) → (Stmts → State → Trace (Unit {0})) → Stmt → State → Trace (Unit {0})
+    bodyBy expr inner list Stmt.empty σ = Trace.done tt σ
+    bodyBy expr inner list (Stmt.assign t e) σ = bind (expr e σ) (next (assigned t))
+    bodyBy expr inner list (Stmt.toA e) σ = expr e σ
+    bodyBy expr inner list (Stmt.setX c) σ = bind (reach c σ) setX
+    bodyBy expr inner list (Stmt.if c s t) σ = bind (condBy expr c σ) (chosen (λ τ. bind (inner s τ) jump) (inner t))
+    bodyBy expr inner list (Stmt.when c s) σ = bind (condBy expr c σ) (chosen (inner s) (λ τ. Trace.done tt τ))
+    bodyBy expr inner list (Stmt.while c s) σ = whileTurns fuel (condBy expr c) (inner s) σ
+    bodyBy expr inner list (Stmt.for i e s) σ = bind (expr e σ) (λ _ τ. bind (storeA (CellId.named i) τ) (next (forTurns fuel (CellId.named i) (inner s))))
+    bodyBy expr inner list (Stmt.forX c s) σ = bind (bind (reach c σ) setX) (next (forTurns fuel xCell (inner s)))
+    bodyBy expr inner list (Stmt.call p) σ = called procedures p σ
+    bodyBy expr inner list (Stmt.callWith p e) σ = bind (expr e σ) (next (called procedures p))
+    bodyBy expr inner list (Stmt.compound ss) σ = list ss σ
+
+    -- "inner before outer": a statement's end comes after those of the statements in it
+    unfoldable pub stmtAt : ℕ → Stmt → State → Trace (Unit {0})
+    stmtAt zero s σ = bind (bodyBy tooDeep tooDeep tooDeep s σ) ended
+    stmtAt (suc left) s σ = bind (bodyBy (exprAt (suc left)) (stmtAt left) (stmtsBy (stmtAt left)) s σ) ended
+
+-- ---- Procedures and a program
+
+-- how many words of sector 0 a declaration takes: procedures and arrays are numbered by them
+unfoldable pub globalsOf : Declaration → ℕ
+globalsOf (Declaration.item name Item.integer) = 1
+globalsOf (Declaration.item name (Item.constant v)) = 1
+globalsOf (Declaration.item name (Item.compconstant v)) = 0
+globalsOf (Declaration.array name size values) = 1
+globalsOf (Declaration.procedure name accumulator locals body) = 1
+globalsOf Declaration.nextSector = 0
+
+-- the levels 0 to 32, as parsing has them
+abbrev pub outermost : Procedures → ℕ → Stmts → State → Trace (Unit {0})
+outermost procedures fuel ss σ = stmtsBy (stmtAt procedures fuel 33) ss σ
+
+-- a procedure sees the earlier ones; "locals last between calls", so their cells are as those of globals
+unfoldable pub withDeclaration : ℕ → ℕ → Procedures → Declaration → Procedures
+withDeclaration fuel n procedures (Declaration.item name item) = procedures
+withDeclaration fuel n procedures (Declaration.array name size values) = procedures
+withDeclaration fuel n procedures (Declaration.procedure name accumulator locals body) =
+    λ p σ. cond (eqb p n) (outermost procedures fuel body σ) (procedures p σ)
+withDeclaration fuel n procedures Declaration.nextSector = procedures
+
+unfoldable pub proceduresFrom : ℕ → ℕ → Procedures → List Declaration → Procedures
+proceduresFrom fuel n procedures [] = procedures
+proceduresFrom fuel n procedures (d ∷ ds) = proceduresFrom fuel (n + globalsOf d) (withDeclaration fuel n procedures d) ds
+
+unfoldable pub proceduresOf : ℕ → List Declaration → Procedures
+proceduresOf fuel ds = proceduresFrom fuel 0 (λ p σ. Trace.broke σ) ds
+
+-- "Moments: the start .., then each statement's end", with fuel for the turns of each loop
+unfoldable pub meaning : ℕ → Program → State → Trace (Unit {0})
+meaning fuel p σ = Trace.observe σ (outermost (proceduresOf fuel (p .declarations)) fuel (p .main) σ)

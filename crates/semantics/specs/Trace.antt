@@ -1,0 +1,33 @@
+-- The state of the semantics (document 01: the meaning), and what a part of a program does from one. Assumes nothing.
+use Prim.Native.Nat.{ℕ, suc}
+use Rattle.effect.specs.declared.Registers.{Registers}
+use Rattle.effect.specs.declared.Switches.{Switches}
+use Rattle.syntax.specs.Tree.{CellId}
+
+-- "named cells (one for each integer, constant and array element declared), A, B, C, X (the integer X alike) and keys", and the number of steps done
+pub record State : Type 0 where
+  pub cells : CellId → ℕ
+  pub registers : Registers
+  pub switches : Switches
+  pub steps : ℕ
+
+-- the observations (document 01: moments) that a part makes, then how it goes on: done, with a value; broken off at a subscript outside its array; out of the fuel that loops take
+pub data Trace (A : Type 0) : Type 0 where
+  done : A → State → Trace A
+  broke : State → Trace A
+  out : State → Trace A
+  observe : State → Trace A → Trace A
+
+unfoldable pub bind : {A B : Type 0} → Trace A → (A → State → Trace B) → Trace B
+bind (Trace.done a σ) f = f a σ
+bind (Trace.broke σ) f = Trace.broke σ
+bind (Trace.out σ) f = Trace.out σ
+bind (Trace.observe m t) f = Trace.observe m (bind t f)
+
+-- one after another, where the first hands no value on
+unfoldable pub next : {B : Type 0} → (State → Trace B) → Unit {0} → State → Trace B
+next f u σ = f σ
+
+-- "each statement's end" is observed
+unfoldable pub ended : Unit {0} → State → Trace (Unit {0})
+ended u σ = Trace.observe σ (Trace.done tt σ)

@@ -1,0 +1,71 @@
+-- Worked examples of tokens, decided by computation.
+use mathlib.Core.Path.{_≡_, refl}
+use Prim.Native.Nat.{ℕ, zero, suc}
+use mathlib.Core.List.{List, [], _∷_, _++_, map}
+use lib.Dec.{eqb}
+use Rattle.source.specs.Bytes.{whether, bytes, span, sameBytes, startsWith, find}
+use Rattle.source.specs.Kinds
+use Rattle.source.specs.PointWords.{pointWords, wordLength, wordKind}
+use Rattle.source.specs.Tokens.{number, constantToken, decimalToken, negativeToken, octalToken, wordToken, signToken, tokenOf, afterBlanks, tokenAt, nameOf}
+
+-- so many numbers from one on
+abbrev from : ℕ → ℕ → List ℕ
+from n zero = []
+from n (suc k) = n ∷ from (suc n) k
+
+-- no two kinds are one number
+kinds-differ :
+    (Kinds.endOfSource ∷ Kinds.unknown ∷ Kinds.outOfRange ∷ Kinds.name ∷ Kinds.numeral ∷ Kinds.semicolon ∷ Kinds.comma ∷ Kinds.equal ∷ Kinds.notEqual ∷ Kinds.less ∷ Kinds.greater ∷ Kinds.atMost ∷
+    Kinds.atLeast ∷ Kinds.plus ∷ Kinds.minus ∷ Kinds.leftParenthesis ∷ Kinds.rightParenthesis ∷ Kinds.leftBracket ∷ Kinds.rightBracket ∷ Kinds.quote ∷ Kinds.at ∷ Kinds.hash ∷ [])
+    ++ map (λ row. row .1) pointWords
+    ≡ from 0 74
+kinds-differ = refl
+
+-- the tokens of a source: kind, value and offset of each. Its line lists what an example unfolds
+tokensBy : ℕ → List ℕ → ℕ → List (ℕ × ℕ × ℕ)
+unfolding span sameBytes startsWith find wordLength wordKind number constantToken decimalToken negativeToken octalToken wordToken signToken tokenOf afterBlanks tokenAt
+tokensBy zero source at = []
+tokensBy (suc k) source at =
+    let t = tokenAt source at in
+    whether (eqb (t .kind) Kinds.endOfSource) (λ _. []) (λ _. (t .kind, t .value, t .at) ∷ tokensBy k source (t .next))
+
+taken-longest :
+    tokensBy 99 (bytes "5A<>=<=>'18.LGL3-5- 5 -32768 40000\n*.FOO.SENSE12X'9 ") 0
+    ≡ (Kinds.numeral, 5, 0) ∷ (Kinds.name, 0, 1) ∷ (Kinds.notEqual, 0, 2) ∷ (Kinds.equal, 0, 4) ∷ (Kinds.atMost, 0, 5) ∷ (Kinds.greater, 0, 7) ∷ (Kinds.numeral, 1, 8) ∷ (Kinds.numeral, 8, 10) ∷
+    (Kinds.LGL, 0, 11) ∷ (Kinds.numeral, 3, 15) ∷ (Kinds.numeral, 65531, 16) ∷ (Kinds.minus, 0, 18) ∷ (Kinds.numeral, 5, 20) ∷ (Kinds.numeral, 32768, 22) ∷ (Kinds.outOfRange, 0, 29) ∷
+    (Kinds.unknown, 0, 35) ∷ (Kinds.unknown, 0, 36) ∷ (Kinds.SENSE1, 0, 40) ∷ (Kinds.numeral, 2, 47) ∷ (Kinds.name, 0, 48) ∷ (Kinds.quote, 0, 49) ∷ (Kinds.numeral, 9, 50) ∷ []
+unfolding tokensBy
+taken-longest = refl
+
+-- every sign
+every-sign :
+    map {B = ℕ × ℕ} (λ t. (t .0, t .2)) (tokensBy 99 (bytes ";,=<><<=>>=+-()[]@#'1") 0)
+    ≡ (Kinds.semicolon, 0) ∷ (Kinds.comma, 1) ∷ (Kinds.equal, 2) ∷ (Kinds.notEqual, 3) ∷ (Kinds.less, 5) ∷ (Kinds.atMost, 6) ∷ (Kinds.greater, 8) ∷ (Kinds.atLeast, 9) ∷ (Kinds.plus, 11) ∷ (Kinds.minus, 12) ∷
+    (Kinds.leftParenthesis, 13) ∷ (Kinds.rightParenthesis, 14) ∷ (Kinds.leftBracket, 15) ∷ (Kinds.rightBracket, 16) ∷ (Kinds.at, 17) ∷ (Kinds.hash, 18) ∷ (Kinds.numeral, 19) ∷ []
+unfolding tokensBy
+every-sign = refl
+
+-- every point-word, in the order of the kinds
+every-word :
+    map (λ t. t .0) (tokensBy 99 (bytes ".BEGIN .END .INTEGER .CONSTANT .COMPCONSTANT .ARRAY .NEXTSECTOR .PROCEDURE .ACCUMULATOR .IF .THEN .ELSE .WHEN .WHILE .DO .FOR"
+    ++ (bytes " .ZERO .AND .NEV .ADDC .INC .NEG .SSP .SSM .CHS .CSA .NOT .ICLEFT .CLEFT .SWOP .ICRIGHT .CRIGHT .ABS"
+    ++ bytes " .LGR .ARS .ARR .LGL .ALS .ALR .NONZERO .PLUS .MINUS .ODD .EVEN .CSET .NOTC .SENSE1 .SENSE2 .SENSE3 .SENSE4 .ANYKEY .NOKEY")) 0)
+    ≡ from 22 52
+unfolding tokensBy
+every-word = refl
+
+-- bytes that are none: lower case, tab, carriage return, `*`, `/`, 0 and 255; a blank is no token
+bad-bytes : map (λ t. t .0) (tokensBy 99 (bytes "a \t\r*/" ++ (0 ∷ 255 ∷ 32 ∷ 10 ∷ [])) 0) ≡ map (λ _. Kinds.unknown) (from 0 7)
+unfolding tokensBy
+bad-bytes = refl
+
+-- the limits of constants
+constants :
+    tokensBy 99 (bytes "32767 32768 -32768 -32769 -0 '177777 '200000 000000000007") 0
+    ≡ (Kinds.numeral, 32767, 0) ∷ (Kinds.outOfRange, 0, 6) ∷ (Kinds.numeral, 32768, 12) ∷ (Kinds.outOfRange, 0, 19) ∷ (Kinds.numeral, 0, 26) ∷ (Kinds.numeral, 65535, 29) ∷ (Kinds.outOfRange, 0, 37) ∷ (Kinds.numeral, 7, 45) ∷ []
+unfolding tokensBy
+constants = refl
+
+six-count : nameOf (bytes " ABCDE1234 ") (tokenAt (bytes " ABCDE1234 ") 0) ≡ bytes "ABCDE1"
+unfolding tokensBy nameOf
+six-count = refl

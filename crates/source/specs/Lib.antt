@@ -1,0 +1,6 @@
+-- Bytes and tokens of the source.
+pub mod Bytes
+pub mod Kinds
+pub mod PointWords
+pub mod Tokens
+pub mod Examples

@@ -1,0 +1,1 @@
+// Bytes and tokens of the source. The definitions are in specs/.

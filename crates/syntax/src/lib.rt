@@ -1,0 +1,1 @@
+// The syntax tree and parsing. The definitions are in specs/.
