@@ -24,7 +24,7 @@ pub state-snoc : (ds : List Declaration) (d : Declaration) → stateAfter (ds ++
 unfolding stateAfter
 state-snoc ds d = fold-snoc step start ds d
 
-kinds-append : (ds es : List Declaration) → kindsOf (ds ++ es) ≡ kindsOf ds ++ kindsOf es
+pub kinds-append : (ds es : List Declaration) → kindsOf (ds ++ es) ≡ kindsOf ds ++ kindsOf es
 unfolding kindsOf
 kinds-append [] es = refl
 kinds-append (Declaration.item name item ∷ ds) es = ap (λ (l : List Kind). itemKinds item ++ l) (kinds-append ds es) ∙ sym (append-assoc (itemKinds item) (kindsOf ds) (kindsOf es))
@@ -35,10 +35,10 @@ kinds-append (Declaration.nextSector ∷ ds) es = kinds-append ds es
 -- ---- Names in a wider context
 
 -- what is declared stays
-abbrev Extends : List Kind → List Kind → Type 0
+abbrev pub Extends : List Kind → List Kind → Type 0
 Extends ks ls = (n : ℕ) (k : Kind) → (k ≡ Kind.none → ⊥) → getD ks n Kind.none ≡ k → getD ls n Kind.none ≡ k
 
-append-extends : (ks ls : List Kind) → Extends ks (ks ++ ls)
+pub append-extends : (ks ls : List Kind) → Extends ks (ks ++ ls)
 append-extends [] ls n k some e = absurd (some (sym e))
 append-extends (j ∷ ks) ls zero k some e = e
 append-extends (j ∷ ks) ls (suc n) k some e = append-extends ks ls n k some e
@@ -49,10 +49,10 @@ outer ks = record { globals = ks; own = 0; locals = 0 }
 cell-some : Kind.cell ≡ Kind.none → ⊥
 cell-some e = let z : _≡_ {A = ℕ} 0 1 = cc in omega arith
 
-array-some : (n : ℕ) → Kind.array n ≡ Kind.none → ⊥
+pub array-some : (n : ℕ) → Kind.array n ≡ Kind.none → ⊥
 array-some n e = let z : _≡_ {A = ℕ} 0 1 = cc in omega arith
 
-procedure-some : Kind.procedure ≡ Kind.none → ⊥
+pub procedure-some : Kind.procedure ≡ Kind.none → ⊥
 procedure-some e = let z : _≡_ {A = ℕ} 0 1 = cc in omega arith
 
 module _ (ks : List Kind) (y : Context) (extends : Extends ks (y .globals)) where

@@ -48,6 +48,13 @@ pub data Word : Type 0 where
   link : ℕ → Word
   free : Word
 
+-- its value in the image: "All other words are 0"
+abbrev pub initial : Word → ℕ
+initial (Word.fixed w) = w
+initial (Word.cell c v) = v
+initial (Word.link p) = 0
+initial Word.free = 0
+
 unfoldable pub fixedWords : Frame → List Sym → List Word
 fixedWords f ws = map (λ w. Word.fixed (wordOf f w)) ws
 
@@ -128,14 +135,6 @@ module _ (p : Program) where
       placed (placeAll planOf start (p .declarations) (placed (replicate 16384 Word.free) 0 (Word.cell (CellId.named Id.x) 0 ∷ []))) (declared .code)
       (fixedWords (frame plan (declared .code)) (mainWords (p .main) (declared .code)) ++ map Word.fixed (plan .pool))
 
-  -- ---- The image: the initial value of each word
-
-  -- "All other words are 0"
-  abbrev pub initial : Word → ℕ
-  initial (Word.fixed w) = w
-  initial (Word.cell c v) = v
-  initial (Word.link p) = 0
-  initial Word.free = 0
-
+  -- the image: the initial value of each word
   unfoldable pub imageOf : List ℕ
   imageOf = map initial mapOf

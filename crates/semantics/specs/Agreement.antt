@@ -18,25 +18,26 @@ use Rattle.semantics.specs.Variables.{variablesOf, constantsOf}
 -- ---- A loaded machine
 
 -- a word of memory, by what the map says that it is for: variables and constants have the start's values, every other word is the image's
-abbrev pub Holds : State → Word → ℕ → Type 0
-Holds σ (Word.fixed w) word = word ≡ w
-Holds σ (Word.cell i v) word = word ≡ σ .cells i
-Holds σ (Word.link p) word = word ≡ 0
-Holds σ Word.free word = word ≡ 0
+abbrev pub Holds : State → Word → ℕ → ℕ → Type 0
+Holds σ (Word.fixed w) imageWord word = word ≡ imageWord
+Holds σ (Word.cell i v) imageWord word = word ≡ σ .cells i
+Holds σ (Word.link p) imageWord word = word ≡ imageWord
+Holds σ Word.free imageWord word = word ≡ imageWord
+
+-- what the meaning starts from: any values but those of the named constants, and nothing done yet
+pub record Start (p : Program) (σ : State) : Type 0 where
+  pub constants : (i : CellId) (v : ℕ) → List·Memᴰ (i, v) (constantsOf p) → σ .cells i ≡ v
+  pub begins : σ .steps ≡ 0
 
 -- "its image loaded, its integers and array cells, A, B, C, X and keys given any values, and the machine set at the entry"
 pub record Loaded (c : Compiled) (σ : State) (s : machine.State) : Type 0 where
+  pub start : Start (c .program) σ
   pub size : length (s .image) ≡ 16384
-  pub words : (k : ℕ) → getD (s .image) k 0 < 65536
-  pub image : (k : ℕ) → k < 16384 → Holds σ (getD (mapOf (c .program)) k Word.free) (getD (s .image) k 0)
-  pub constants : (i : CellId) (v : ℕ) → List·Memᴰ (i, v) (constantsOf (c .program)) → σ .cells i ≡ v
+  pub image : (k : ℕ) → k < 16384 → Holds σ (getD (mapOf (c .program)) k Word.free) (getD (c .image) k 0) (getD (s .image) k 0)
   pub registers : s .machine .registers ≡ σ .registers
-  pub a-word : σ .registers .a < 65536
-  pub b-word : σ .registers .b < 65536
   pub switches : s .machine .switches ≡ σ .switches
   pub entry : s .machine .p ≡ c .entry
   pub running : s .machine .halted ≡ false
-  pub begins : σ .steps ≡ 0
 
 -- "the variables, A, B, C and X are those that the meaning has"
 pub record Shows (p : Program) (σ : State) (s : machine.State) : Type 0 where

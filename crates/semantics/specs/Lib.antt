@@ -3,3 +3,4 @@ pub mod Acts
 pub mod Meaning
 pub mod Variables
 pub mod Agreement
+pub mod Examples

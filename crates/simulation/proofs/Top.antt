@@ -1,12 +1,12 @@
 -- Demand 3 for every program that is laid: it agrees with its meaning under every list of runs. Assumes nothing.
 use Prim.Native.Nat.{ℕ, suc, _≤_, _<_}
-use mathlib.Core.Path.{_≡_, refl, ap, subst}
+use mathlib.Core.Path.{_≡_, refl, ap, subst, _∙_}
 use mathlib.Core.Bool.{true, false}
 use mathlib.Core.List.{List, List·Memᴰ}
 use native.Mathlib.Nat.{le-refl}
 use native.Mathlib.Omega.{arith}
 use native.Mathlib.Decide.{decLt}
-use lib.ListN.{getD}
+use lib.ListN.{getD, List·getD-map}
 use Rattle.machine.specs.declared.Clock.{Clock}
 use Rattle.machine.specs.declared.Request.{Request}
 use Rattle.machine.specs.declared.Machine.{Machine}
@@ -15,7 +15,7 @@ use Rattle.runs.specs.Steps.{Steps}
 use Rattle.runs.specs.Runs.{Total, runsDef, budgetsOf}
 use Rattle.runs.proofs.Lists as runs
 use Rattle.syntax.specs.Tree.{CellId}
-use Rattle.emission.specs.Map.{Word}
+use Rattle.emission.specs.Map.{Word, initial, mapOf, imageOf}
 use Rattle.emission.specs.Compile.{Compiled}
 use Rattle.semantics.specs.Trace.{State, Trace}
 use Rattle.semantics.specs.Meaning.{meaning}
@@ -48,7 +48,7 @@ outcome (Trace.observe m t) = more (outcome t)
     more (breaks τ e) = breaks τ (Breaks.later e)
     more (runs-out τ e) = runs-out τ (RunsOut.later e)
 
-module _ (c : Compiled) (well : WellFormed (c .program))
+module _ (c : Compiled) (is : c .image ≡ imageOf (c .program)) (well : WellFormed (c .program))
     (laid : LaidProgram (mapAt (c .program)) (knownOf (c .program .declarations)) (c .program .main) (c .entry))
     (homes : (i : CellId) → List·Memᴰ i (variablesOf (c .program)) → Home (c .program) i)
     (σ : State) (s : machine.State) (loaded : Loaded c σ s) where
@@ -60,21 +60,26 @@ module _ (c : Compiled) (well : WellFormed (c .program))
   abbrev Stood : ℕ → State → List ℕ → Type 0
   Stood p τ m = At (mapAt (c .program)) (laid .sound) s idle p τ m
 
+  image-word : (k : ℕ) → getD (c .image) k 0 ≡ initial (mapAt (c .program) k)
+  unfolding imageOf
+  image-word k = ap (λ (l : List ℕ). getD l k 0) is ∙ List·getD-map initial (mapOf (c .program)) k Word.free
+
   begun : Steps (σ .steps) s (machine.state (machineOf σ (c .entry)) (s .image))
-  begun = rw (loaded .begins, ← loaded .registers, ← loaded .switches, ← loaded .entry, ← loaded .running) Steps.none
+  begun = rw (loaded .start .begins, ← loaded .registers, ← loaded .switches, ← loaded .entry, ← loaded .running) Steps.none
 
   start : Stood (c .entry) σ (s .image)
   start = record {
     made = begun;
     size = loaded .size;
-    serves = λ k b. serve k (mapAt (c .program) k) (loaded .image k b);
+    serves = λ k b. serve k (mapAt (c .program) k) (image-word k) (loaded .image k b);
   }
     where
-      serve : (k : ℕ) (w : Word) → Holds σ w (getD (s .image) k 0) → Serves idle (σ .cells) w (getD (s .image) k 0)
-      serve k (Word.fixed w) h = h
-      serve k (Word.cell i v) h = h
-      serve k (Word.link q) h = (omega arith, tt)
-      serve k Word.free h = tt
+      serve : (k : ℕ) (w : Word) → getD (c .image) k 0 ≡ initial w → Holds σ w (getD (c .image) k 0) (getD (s .image) k 0)
+          → Serves idle (σ .cells) w (getD (s .image) k 0)
+      serve k (Word.fixed w) e h = h ∙ e
+      serve k (Word.cell i v) e h = h
+      serve k (Word.link q) e h = let z : getD (s .image) k 0 ≡ 0 = h ∙ e in (omega arith, tt)
+      serve k Word.free e h = tt
 
   abbrev Followed : ℕ → ℕ → Trace (Unit {0}) → Type 0
   Followed N low t = Follows (mapAt (c .program)) (laid .sound) s N idle (laid .last) low t
@@ -175,15 +180,15 @@ module _ (c : Compiled) (well : WellFormed (c .program))
   result = record {
     steady = λ f g l. more-fuel f g l (c .program) σ;
     complete = λ f τ e. out-of (followed f) e .0;
-    rising = λ f. subst (λ (n : ℕ). Rising n (meaning f (c .program) σ)) (loaded .begins) (rising-of (followed f));
+    rising = λ f. subst (λ (n : ℕ). Rising n (meaning f (c .program) σ)) (loaded .start .begins) (rising-of (followed f));
     homes = homes;
     observed = λ f m o qs k e. meets m (observed-of (followed f) o) qs k e;
     broken = λ f τ o qs k e. meets τ (broken-of (followed f) o) qs k e;
     fate = fate-of;
   }
 
-pub agrees : (c : Compiled) → WellFormed (c .program)
+pub agrees : (c : Compiled) → c .image ≡ imageOf (c .program) → WellFormed (c .program)
     → LaidProgram (mapAt (c .program)) (knownOf (c .program .declarations)) (c .program .main) (c .entry)
     → ((i : CellId) → List·Memᴰ i (variablesOf (c .program)) → Home (c .program) i)
     → (σ : State) (s : machine.State) → Loaded c σ s → Agrees (c .program) σ s
-agrees c well laid homes σ s loaded = result c well laid homes σ s loaded
+agrees c is well laid homes σ s loaded = result c is well laid homes σ s loaded

@@ -1,0 +1,91 @@
+-- Worked examples of the meaning, decided by computation: the numbers of steps of the observations, how the trace ends, and what A and X are then. Assumes nothing.
+use Prim.Native.Nat.{ℕ}
+use Prim.Native.String.{String}
+use mathlib.Core.Path.{_≡_, refl}
+use mathlib.Core.Bool.{Bool, true, false}
+use mathlib.Core.List.{List, [], _∷_, map}
+use Rattle.word.specs.Arithmetic.{compareOf, sumOf, differenceOf}
+use Rattle.word.specs.Shift.{shiftOf, signChanges}
+use Rattle.effect.specs.Effects.{operateOf, unaryOf}
+use Rattle.effect.specs.Skips.{skipsOf}
+use Rattle.source.specs.Bytes.{bytes}
+use Rattle.syntax.specs.Tree.{Id, CellId, Program, sameId, sameCell}
+use Rattle.syntax.specs.Parse.{Got}
+use Rattle.syntax.specs.Program.{parseProgram}
+use Rattle.syntax.specs.Computed as syntax
+use Rattle.semantics.specs.Trace.{State, Trace, bind, next, ended}
+use Rattle.semantics.specs.Acts.{updated, placeOf, valueOf, subscripted, isInside, element, asPlace, reach, operate, storeA, setX, absolute, test, jump, counted}
+use Rattle.semantics.specs.Meaning.{unaryOn, unariesOn, operationOn, operationsOn, called, chosen, orderOf, holds, wordsAfter, ticks, related, whileTurns, forTurns, assigned, stmtsBy, termBy, condBy, exprBy, exprAt, bodyBy, stmtAt, globalsOf, withDeclaration, proceduresFrom, proceduresOf, meaning}
+
+-- every definition that a meaning rests on, listed once
+unfoldable computed : ℕ → Program → State → Trace (Unit {0})
+unfolding syntax.computed compareOf sumOf differenceOf shiftOf signChanges operateOf unaryOf skipsOf sameId sameCell bind next ended updated placeOf valueOf subscripted isInside element asPlace reach operate storeA setX absolute test jump counted unaryOn unariesOn operationOn operationsOn called chosen orderOf holds wordsAfter ticks related whileTurns forTurns assigned stmtsBy termBy condBy exprBy exprAt bodyBy stmtAt globalsOf withDeclaration proceduresFrom proceduresOf meaning
+computed f p σ = meaning f p σ
+
+pub data Ending : Type 0 where
+  done broken out refused : ℕ → ℕ → ℕ → Ending
+
+abbrev ending : (ℕ → ℕ → ℕ → Ending) → State → Ending
+ending e σ = e (σ .steps) (σ .registers .a) (σ .cells (CellId.named Id.x))
+
+-- the steps at each observation, and the end with its steps, A and X
+abbrev numbers : Trace (Unit {0}) → List ℕ
+numbers (Trace.done u σ) = []
+numbers (Trace.broke σ) = []
+numbers (Trace.out σ) = []
+numbers (Trace.observe m t) = m .steps ∷ numbers t
+
+abbrev end : Trace (Unit {0}) → Ending
+end (Trace.done u σ) = ending Ending.done σ
+end (Trace.broke σ) = ending Ending.broken σ
+end (Trace.out σ) = ending Ending.out σ
+end (Trace.observe m t) = end t
+
+-- every cell 0, A 7, no key set
+abbrev start : State
+start = record {
+  cells = λ i. 0;
+  registers = record { a = 7; b = 0; c = false };
+  switches = record { one = false; two = false; three = false; four = false };
+  steps = 0;
+}
+
+abbrev shown : Got Program → List ℕ × Ending
+shown (Got.got p next) = (numbers (meaning 3 p start), end (meaning 3 p start))
+shown (Got.failed n at) = ([], Ending.refused n at 0)
+
+abbrev rows : List (String × List ℕ × Ending)
+rows =
+    -- one empty statement: two observations, both at 0 steps
+    (".BEGIN .END", 0 ∷ 0 ∷ [], Ending.done 0 7 0) ∷
+    -- the first recipe: LDA ADD ADD STA
+    (".BEGIN .INTEGER A; A = 2140 + 1875 + 960 .END", 0 ∷ 4 ∷ [], Ending.done 4 4975 0) ∷
+    -- unary words right to left, before the additions: AOA, TCA, then ADD
+    (".BEGIN @ = .NEG .INC @ + 10 .END", 0 ∷ 3 ∷ [], Ending.done 3 2 0) ∷
+    -- SPL skips TCA
+    (".BEGIN @ = .ABS @ .END", 0 ∷ 1 ∷ [], Ending.done 1 7 0) ∷
+    (".BEGIN @ = .ABS .NEG @ .END", 0 ∷ 3 ∷ [], Ending.done 3 7 0) ∷
+    -- the end of .IF after its JMP end; of .WHEN where the test fails, after its JMP false
+    (".BEGIN .IF @ .ODD .THEN @ = 1 .ELSE @ = 2 .END", 0 ∷ 2 ∷ 3 ∷ [], Ending.done 3 1 0) ∷
+    (".BEGIN .IF @ .EVEN .THEN @ = 1 .ELSE @ = 2 .END", 0 ∷ 3 ∷ 3 ∷ [], Ending.done 3 2 0) ∷
+    (".BEGIN .WHEN @ .ZERO .THEN @ = 1 .END", 0 ∷ 2 ∷ [], Ending.done 2 7 0) ∷
+    -- one pass from -1: a body's end before the IRS, the loop's after it
+    (".BEGIN .INTEGER I; .FOR I = -1 .DO @ = .ZERO .END", 0 ∷ 3 ∷ 4 ∷ [], Ending.done 4 0 0) ∷
+    -- two passes from -2, IRS and JMP between them
+    (".BEGIN .FOR # = -2 .DO @ = .INC @ .END", 0 ∷ 2 ∷ 5 ∷ 6 ∷ [], Ending.done 6 9 0) ∷
+    -- 65,536 passes from 0 are more than the fuel
+    (".BEGIN .INTEGER I; .FOR I = .ZERO .DO .END", 0 ∷ 2 ∷ 4 ∷ 6 ∷ [], Ending.out 8 0 0) ∷
+    -- a loop that never ends
+    (".BEGIN .WHILE .NOKEY .DO .END", 0 ∷ 1 ∷ 3 ∷ 5 ∷ [], Ending.out 6 7 0) ∷
+    -- a procedure's statement ends at each call, the call's own after JMP*
+    (".BEGIN .PROCEDURE P; .BEGIN @ = .INC @ .END; P; P .END", 0 ∷ 2 ∷ 3 ∷ 5 ∷ 6 ∷ [], Ending.done 6 9 0) ∷
+    -- a call that is a term has no observation of its own
+    (".BEGIN .ACCUMULATOR .PROCEDURE P; .BEGIN @ = .INC @ .END; @ = P(1) + 1 .END", 0 ∷ 3 ∷ 5 ∷ [], Ending.done 5 3 0) ∷
+    -- the value first, then LDX of the target; outside its array it breaks off there, X loaded
+    (".BEGIN .ARRAY T[2]; T[-1] = 5 .END", 0 ∷ 3 ∷ [], Ending.done 3 5 65535) ∷
+    (".BEGIN .ARRAY T[2]; T[-3] = 5 .END", 0 ∷ [], Ending.broken 2 5 65533) ∷
+    (".BEGIN .ARRAY T[2]; T[#] = 5 .END", 0 ∷ [], Ending.broken 1 5 0) ∷ []
+
+examples : map (λ row. shown (parseProgram (bytes (row .0)))) rows ≡ map {B = List ℕ × Ending} (λ row. (row .1, row .2)) rows
+unfolding computed
+examples = refl
