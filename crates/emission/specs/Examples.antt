@@ -1,7 +1,5 @@
 -- Worked examples, decided by computation.
 use mathlib.Core.Path.{_≡_, refl}
-use Prim.Native.Nat.{ℕ}
-use mathlib.Core.List.{List}
 use Rattle.source.specs.Bytes.{bytes}
 use Rattle.emission.specs.Compile.{compileDef}
 use Rattle.emission.specs.Listing.{listingDef}

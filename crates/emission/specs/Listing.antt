@@ -1,10 +1,10 @@
 -- The listing: the lines of document 01's first recipe, "failure number or 0, byte offset, entry, count of words from '1000 .., count of words from '200, then the words of '200 up and of '1000 up ..; all but the first two and the counts in octal".
-use Prim.Native.Nat.{ℕ, zero, suc, _+_, _*_, _/_, _%_}
+use Prim.Native.Nat.{ℕ, zero, suc, _+_, _/_, _%_}
 use mathlib.Core.List.{List, [], _∷_, _++_}
 use lib.Dec.{ltb}
 use lib.ListN.{take, drop}
 use Rattle.source.specs.Bytes.{whether, bytes}
-use Rattle.emission.specs.Compile.{Compiled, Result}
+use Rattle.emission.specs.Compile.{Result}
 
 -- six octal digits, from the highest
 unfoldable pub digits : ℕ → ℕ → List ℕ

@@ -1,5 +1,5 @@
 -- The memory map of a program: what each of the 16,384 words is for. Document 01's "Words laid".
-use Prim.Native.Nat.{ℕ, zero, suc, _+_, _-_, _*_, _%_}
+use Prim.Native.Nat.{ℕ, zero, suc, _+_, _-_, _%_}
 use mathlib.Core.Bool.{Bool, true, false}
 use mathlib.Core.List.{List, [], _∷_, _++_, map}
 use lib.Dec.{leb, eqb}
@@ -10,7 +10,7 @@ use Rattle.instruction.specs.Encode.{memoryWord, shiftWord}
 use Rattle.syntax.specs.Tree.{Id, CellId, Operand, Name, Item, Stmts, Declaration, Program}
 use Rattle.syntax.specs.Emission.{Sym, procedureWords, mainWords}
 use Rattle.syntax.specs.Pool.{indexOf}
-use Rattle.syntax.specs.State.{State, start, localWords, linkOf, step, stateAfter, finish}
+use Rattle.syntax.specs.State.{State, start, linkOf, step, stateAfter, finish}
 
 -- ---- Symbolic words as words
 

@@ -1,8 +1,6 @@
 -- The acts of the semantics, each one step, by the machine's own effects: "Loads, unary words, operators, shifts, tests and stores act .. in the laid words' order, each as its order does". Assumes nothing.
 use Prim.Native.Nat.{ℕ, suc, _+_, _-_, _%_}
 use mathlib.Core.Bool.{Bool, true, false, cond}
-use mathlib.Core.List.{List, [], _∷_}
-use native.Mathlib.Decide.{ℕ-discrete}
 use lib.Dec.{eqb, leb, ltb}
 use Rattle.effect.specs.declared.Registers.{Registers}
 use Rattle.effect.specs.Effects.{operateOf, unaryOf, shiftedOf}

@@ -1,5 +1,5 @@
 -- Demand 3: what every list of runs of a loaded machine shows of the meaning. Assumes nothing.
-use Prim.Native.Nat.{ℕ, zero, suc, _≤_, _<_}
+use Prim.Native.Nat.{ℕ, suc, _≤_, _<_}
 use mathlib.Core.Path.{_≡_}
 use mathlib.Core.Bool.{true, false}
 use mathlib.Core.List.{List, List·Memᴰ}
@@ -120,3 +120,7 @@ pub record Agrees (p : Program) (σ : State) (s : machine.State) : Type 0 where
 -- "Suppose a recipe is accepted, its image loaded .."
 unfoldable pub Demand3 : Type 0
 Demand3 = (source : List ℕ) (c : Compiled) → compileDef source ≡ Result.accepted c → (σ : State) (s : machine.State) → Loaded c σ s → Agrees (c .program) σ s
+
+-- and such machines exist: whatever the start, one is loaded with it
+unfoldable pub Loadable : Type 0
+Loadable = (source : List ℕ) (c : Compiled) → compileDef source ≡ Result.accepted c → (σ : State) → Start (c .program) σ → (s : machine.State) × Loaded c σ s

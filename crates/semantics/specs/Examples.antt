@@ -2,7 +2,7 @@
 use Prim.Native.Nat.{ℕ}
 use Prim.Native.String.{String}
 use mathlib.Core.Path.{_≡_, refl}
-use mathlib.Core.Bool.{Bool, true, false}
+use mathlib.Core.Bool.{false}
 use mathlib.Core.List.{List, [], _∷_, map}
 use Rattle.word.specs.Arithmetic.{compareOf, sumOf, differenceOf}
 use Rattle.word.specs.Shift.{shiftOf, signChanges}
@@ -18,7 +18,7 @@ use Rattle.semantics.specs.Acts.{updated, placeOf, valueOf, subscripted,
 use Rattle.semantics.specs.Meaning.{unaryOn, unariesOn, operationOn, operationsOn, called, chosen, orderOf, holds, wordsAfter, ticks, related, whileTurns, forTurns, assigned, stmtsBy, termBy, condBy, exprBy, exprAt, bodyBy, stmtAt, globalsOf, withDeclaration, proceduresFrom, proceduresOf, meaning}
 
 -- every definition that a meaning rests on, listed once
-unfoldable computed : ℕ → Program → State → Trace (Unit {0})
+unfoldable pub computed : ℕ → Program → State → Trace (Unit {0})
 unfolding syntax.computed compareOf sumOf differenceOf shiftOf signChanges operateOf unaryOf skipsOf sameId sameCell bind next ended updated placeOf valueOf subscripted isInside element asPlace reach operate storeA setX absolute test jump counted unaryOn unariesOn operationOn operationsOn called chosen orderOf holds wordsAfter ticks related whileTurns forTurns assigned stmtsBy termBy condBy exprBy exprAt bodyBy stmtAt globalsOf withDeclaration proceduresFrom proceduresOf meaning
 computed f p σ = meaning f p σ
 
@@ -42,7 +42,7 @@ end (Trace.out σ) = ending Ending.out σ
 end (Trace.observe m t) = end t
 
 -- every cell 0, A 7, no key set
-abbrev start : State
+abbrev pub start : State
 start = record {
   cells = λ i. 0;
   registers = record { a = 7; b = 0; c = false };

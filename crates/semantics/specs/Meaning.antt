@@ -7,10 +7,10 @@ use lib.Dec.{eqb}
 use Rattle.word.specs.Arithmetic.{compareOf}
 use Rattle.instruction.specs.Code.{LDA}
 use Rattle.instruction.specs.Slot.{CRA, CMA, TCA, CHS, SSP, SSM, CSA, CAR, CAL, ICL, AOA, ACA, ICR, ICA}
-use Rattle.syntax.specs.Tree.{Id, CellId, Unary, Operation, Relation, Expr, Term, Cond, Target, Stmt, Stmts, Item, Declaration, Program}
+use Rattle.syntax.specs.Tree.{CellId, Unary, Operation, Relation, Expr, Term, Cond, Target, Stmt, Stmts, Item, Declaration, Program}
 use Rattle.syntax.specs.Emission.{operatorCode, shiftKind, testSlot, bareSlot}
 use Rattle.semantics.specs.Trace.{State, Trace, bind, next, ended}
-use Rattle.semantics.specs.Acts.{Place, valueOf, tick, xCell, store, element, subscripted, reach, operate, storeA, setX, generic, absolute, shifted, test, jump, counted}
+use Rattle.semantics.specs.Acts.{Place, valueOf, tick, xCell, element, subscripted, reach, operate, storeA, setX, generic, absolute, shifted, test, jump, counted}
 
 -- ---- Expressions
 

@@ -1,5 +1,5 @@
 -- The state of the semantics (document 01: the meaning), and what a part of a program does from one. Assumes nothing.
-use Prim.Native.Nat.{ℕ, suc}
+use Prim.Native.Nat.{ℕ}
 use Rattle.effect.specs.declared.Registers.{Registers}
 use Rattle.effect.specs.declared.Switches.{Switches}
 use Rattle.syntax.specs.Tree.{CellId}

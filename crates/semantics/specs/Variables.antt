@@ -2,7 +2,6 @@
 use Prim.Native.Nat.{ℕ, zero, suc, _+_, _-_}
 use mathlib.Core.List.{List, [], _∷_, _++_}
 use Rattle.syntax.specs.Tree.{Id, CellId, Name, Item, Declaration, Program}
-use Rattle.semantics.specs.Meaning.{globalsOf}
 
 -- of an item with the id that it takes, if it takes one
 unfoldable pub itemVariables : Id → Item → List CellId

@@ -1,1 +1,11 @@
-// The semantics of the language and demand 3 over the definitions. They are in specs/.
+// The semantics of the language, and demand 3 over the definitions. The functions carry the theorems as their contracts.
+ghost use Rattle.semantics.specs.Agreement.{Demand3, Loadable};
+
+pub fn demand_three()
+    ensures { λ r. ⌜ Demand3 ⌝ }
+{}
+
+// The theorem is about something: a machine can be loaded with every start.
+pub fn start_exists()
+    ensures { λ r. ⌜ Loadable ⌝ }
+{}

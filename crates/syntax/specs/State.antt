@@ -1,9 +1,8 @@
 -- The state of the fold over the declarations.
 use Prim.Native.Nat.{ℕ, suc, _+_, _-_, _*_}
-use mathlib.Core.Bool.{Bool}
 use mathlib.Core.List.{List, [], _∷_, _++_, foldl}
 use lib.ListN.{length}
-use Rattle.syntax.specs.Tree.{Array, Name, Item, Stmts, Declaration}
+use Rattle.syntax.specs.Tree.{Name, Item, Stmts, Declaration}
 use Rattle.syntax.specs.Symbols.{Symbol, Level, Scope, declare, declareItem, localScope}
 use Rattle.syntax.specs.Emission.{Sym, after, procedureWords, mainWords}
 use Rattle.syntax.specs.Pool.{literalsOf, addedAll}

@@ -1,9 +1,0 @@
-pub mod Parts
-pub mod Words
-pub mod Names
-pub mod Forms
-pub mod Statements
-pub mod Scopes
-pub mod Locals
-pub mod Declarations
-pub mod Acceptance

@@ -1,0 +1,5 @@
+-- Demand 3, from the three parts. Assumes nothing.
+pub mod Programs
+pub mod Theorem
+pub mod Loading
+pub mod Recipes

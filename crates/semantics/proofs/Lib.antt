@@ -1,0 +1,4 @@
+pub mod MemoryMap
+pub mod Acceptance
+pub mod Simulation
+pub mod Demand

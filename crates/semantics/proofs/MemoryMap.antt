@@ -1,0 +1,21 @@
+-- What is laid where: every well-formed program stands in its map as the relation Laid says. Assumes nothing.
+pub mod Spans
+pub mod LaidBy
+pub mod Words
+pub mod Bodies
+pub mod Reach
+pub mod Procedures
+pub mod AtHome
+pub mod Fitting
+pub mod Spots
+pub mod Unique
+pub mod Placing
+pub mod Pools
+pub mod Front
+pub mod Items
+pub mod Kept
+pub mod Here
+pub mod Closing
+pub mod Stands
+pub mod Homes
+pub mod Placement

@@ -1,0 +1,194 @@
+-- What each declaration has in the finished map. Assumes nothing.
+use Prim.Native.Nat.{ℕ, suc, _+_, _-_, _*_, _/_, _%_, _≤_, _<_}
+use mathlib.Core.Path.{_≡_, refl, sym, ap, _∙_, subst}
+use mathlib.Core.Bool.{Bool, true, false, cond}
+use mathlib.Core.List.{List, [], _∷_, _++_}
+use native.Mathlib.Omega.{arith}
+use borrow.Author.Tests.{leb-true, ltb-true, lt-leb, eq-eqb}
+use lib.Dec.{leb, ltb}
+use lib.ListN.{length, getD, length-append, List·getD-append}
+use lib.Seq.{getD-append-add}
+use Rattle.syntax.specs.Tree.{Id, CellId, Array, Name, Item, Stmts, Declaration, Program}
+use Rattle.syntax.specs.Symbols.{declare, wordsTaken}
+use Rattle.syntax.specs.Emission.{procedureWords}
+use Rattle.syntax.specs.State.{State, sectorOf, localWords, linkOf, step}
+use Rattle.emission.specs.Map.{Word, Frame, frame, fixedWords, placed, itemWords, localItems, elements, placeDeclaration, planOf}
+use Rattle.semantics.specs.Acts.{isInside}
+use Rattle.semantics.specs.WellFormed.{Kind, itemKinds, kindsOf}
+use Rattle.semantics.specs.Laid.{ArrayWord, ProcedureWord}
+use Rattle.semantics.specs.Known.{mapAt}
+use Rattle.semantics.proofs.MemoryMap.Bodies.{Fixed}
+use Rattle.semantics.proofs.MemoryMap.Placing.{placed-in, placed-first, placed-before}
+use Rattle.semantics.proofs.MemoryMap.Front.{array-fits}
+use Rattle.semantics.proofs.MemoryMap.Items.{item-length, elements-length, elements-at, local-length, Local, local-at, procedure-length, fixed-from}
+use Rattle.semantics.proofs.MemoryMap.Kept.{Outside, lay-global}
+use Rattle.semantics.proofs.MemoryMap.Here.{Here, words-on, fits-on, placing, next, kept}
+
+-- the word of a global cell
+pub record CellAt (p : Program) (n : ℕ) : Type 0 where
+  pub value : ℕ
+  pub few : n < 384
+  pub is : mapAt p (0o200 + n) ≡ Word.cell (CellId.named (Id.global n)) value
+
+pub inside-bounds : (a : Array) (v : ℕ) → isInside a v ≡ true → (65536 - a .size ≤ v) × (v < 65536)
+unfolding isInside
+inside-bounds a v h = go (leb (65536 - a .size) v) (ltb v 65536) refl refl h
+  where
+    go : (b c : Bool) → leb (65536 - a .size) v ≡ b → ltb v 65536 ≡ c → cond b c false ≡ true → (65536 - a .size ≤ v) × (v < 65536)
+    go true true e f h = (leb-true (65536 - a .size) v e, ltb-true v 65536 f)
+    go true false e f h = let z : _≡_ {A = ℕ} 0 1 = cc in absurd (omega arith)
+    go false c e f h = let z : _≡_ {A = ℕ} 0 1 = cc in absurd (omega arith)
+
+module _ (p : Program) (st : State) (ks : List Kind) (ds : List Declaration) (m : List Word) where
+  -- what a declaration has laid is as it will be
+  stays : (d : Declaration) → Here p st ks (d ∷ ds) m → (k : ℕ) → Outside (step st d) k → mapAt p k ≡ getD (placing p st d m) k Word.free
+  stays d h k o = kept p ds (step st d) (ks ++ kindsOf (d ∷ [])) (placing p st d m) (next p st ks d ds m h) .same k o
+
+  few-on : (d : Declaration) → Here p st ks (d ∷ ds) m → st .scope .words + length (kindsOf (d ∷ [])) ≤ 384
+  few-on d h = subst (λ (n : ℕ). n ≤ 384) (words-on st d) (next p st ks d ds m h .room .few)
+
+  word-taken : (d : Declaration) → 1 ≤ length (kindsOf (d ∷ [])) → Outside (step st d) (0o200 + st .scope .words)
+  word-taken d l = Outside.global (omega (arith, words-on st d))
+
+  -- ---- An item
+
+  pub item-word : (name : Name) (item : Item) (v : ℕ) → itemWords (Id.global (st .scope .words)) item ≡ Word.cell (CellId.named (Id.global (st .scope .words))) v ∷ []
+      → Here p st ks (Declaration.item name item ∷ ds) m → CellAt p (st .scope .words)
+  unfolding placeDeclaration kindsOf
+  item-word name item v e h =
+      let n = st .scope .words in
+      let d = Declaration.item name item in
+      let l : length (itemKinds item) ≡ 1 = sym (item-length (Id.global n) item) ∙ ap length e in
+      let k : length (kindsOf (d ∷ [])) ≡ length (itemKinds item) + 0 = length-append (itemKinds item) [] in
+      let f : n + length (kindsOf (d ∷ [])) ≤ 384 = few-on d h in
+      record {
+        value = v;
+        few = omega arith;
+        is = stays d h (0o200 + n) (word-taken d (omega arith))
+            ∙ ap (λ (ws : List Word). getD (placed m (0o200 + n) ws) (0o200 + n) Word.free) e
+            ∙ placed-first m (0o200 + n) (Word.cell (CellId.named (Id.global n)) v) [] (omega (arith, h .size));
+      }
+
+  -- ---- An array
+
+  module _ (name : Name) (size : ℕ) (values : List ℕ) (h : Here p st ks (Declaration.array name size values ∷ ds) m) where
+    abbrev number : ℕ
+    number = st .scope .words
+
+    pub array-low : st .code + size ≤ st .array
+    array-low = omega (arith, array-fits st size (h .ok .0 .4))
+
+    pub element-at : (j : ℕ) → j < size → mapAt p (st .array - size + j) ≡ Word.cell (CellId.element number (65536 - size + j)) (getD values j 0)
+    unfolding placeDeclaration step
+    element-at j l =
+        let g = lay-global st (h .room) m (h .size) (Word.fixed (0o40000 + st .array) ∷ []) (omega (arith, h .ok .0 .0)) in
+        let e : length (elements number (65536 - size) size values) ≡ size = elements-length number (65536 - size) size values in
+        stays (Declaration.array name size values) h (st .array - size + j) (Outside.array (omega arith))
+        ∙ placed-in (placed m (0o200 + number) (Word.fixed (0o40000 + st .array) ∷ [])) (st .array - size) (elements number (65536 - size) size values)
+        (omega (arith, array-low, h .room .top, g .size)) j (omega arith)
+        ∙ elements-at number (65536 - size) size values j l
+
+    pub array-word : ArrayWord (mapAt p) (record { number = number; size = size }) (0o200 + number)
+    unfolding placeDeclaration step declare wordsTaken
+    array-word =
+        let few : number < 384 = h .ok .0 .0 in
+        let most : size ≤ 8192 = h .ok .0 .1 in
+        let top : st .array ≤ 16383 = h .room .top in
+        let low : 512 * sectorOf st ≤ st .code = h .room .low in
+        let fit : st .code + size ≤ st .array = array-low in
+        let g = lay-global st (h .room) m (h .size) (Word.fixed (0o40000 + st .array) ∷ []) (omega arith) in
+        let e : length (elements number (65536 - size) size values) ≡ size = elements-length number (65536 - size) size values in
+        let one : (0o40000 + st .array) / 0o40000 % 2 ≡ 1 = omega arith in
+        record {
+          below = omega arith;
+          word = 0o40000 + st .array;
+          here = stays (Declaration.array name size values) h (0o200 + number) (Outside.global (omega arith))
+              ∙ placed-before (placed m (0o200 + number) (Word.fixed (0o40000 + st .array) ∷ [])) (st .array - size) (elements number (65536 - size) size values)
+              (omega (arith, g .size)) (0o200 + number) (omega arith)
+              ∙ placed-first m (0o200 + number) (Word.fixed (0o40000 + st .array)) [] (omega (arith, h .size));
+          straight = lt-leb 0o100000 (0o40000 + st .array) (omega arith);
+          tagged = eq-eqb ((0o40000 + st .array) / 0o40000 % 2) 1 one;
+          initial = λ v. getD values (v - (65536 - size)) 0;
+          elements = λ v b.
+              let r = inside-bounds (record { number = number; size = size }) v b in
+              let lo : 65536 - size ≤ v = r .0 in
+              let hi : v < 65536 = r .1 in
+              let j : ℕ = v - (65536 - size) in
+              let there : ((0o40000 + st .array) % 16384 + v) % 16384 ≡ st .array - size + j = omega arith in
+              let same : 65536 - size + j ≡ v = omega arith in
+              ap (mapAt p) there ∙ element-at j (omega arith) ∙ ap (λ (n : ℕ). Word.cell (CellId.element number n) (getD values j 0)) same;
+        }
+
+  -- ---- A procedure
+
+  module _ (name : Name) (accumulator : Bool) (locals : List (Name × Item)) (body : Stmts) (h : Here p st ks (Declaration.procedure name accumulator locals body ∷ ds) m) where
+    abbrev own : ℕ
+    own = st .scope .words
+
+    abbrev pub at : ℕ
+    at = linkOf st name locals
+
+    abbrev pub over : Frame
+    over = frame (planOf p (length (st .ends))) (st .code)
+
+    abbrev codes : List Word
+    codes = localItems own 0 locals ++ (Word.link own ∷ fixedWords over (procedureWords body at))
+
+    pub code-room : (st .code + localWords st name locals + suc (length (procedureWords body at)) ≤ st .array)
+        × (st .code + localWords st name locals + suc (length (procedureWords body at)) ≤ 512 * suc (sectorOf st))
+    unfolding step
+    code-room = let f = fits-on p st ks (Declaration.procedure name accumulator locals body) ds m h in (omega (arith, f .space), omega (arith, f .sector))
+
+    code-at : (j : ℕ) → j < length codes → mapAt p (st .code + j) ≡ getD codes j Word.free
+    unfolding placeDeclaration step
+    code-at j l =
+        let e : length codes ≡ localWords st name locals + suc (length (procedureWords body at)) = procedure-length st name own locals over (procedureWords body at) in
+        let g = lay-global st (h .room) m (h .size) (Word.fixed at ∷ []) (omega (arith, h .ok .0 .0)) in
+        let low : 512 * sectorOf st ≤ st .code = h .room .low in
+        stays (Declaration.procedure name accumulator locals body) h (st .code + j) (Outside.code (omega arith) (omega arith))
+        ∙ placed-in (placed m (0o200 + own) (Word.fixed at ∷ [])) (st .code) codes (omega (arith, code-room .0, h .room .top, g .size)) j l
+
+    pub local-word : (n : ℕ) → n < localWords st name locals → Local own n (mapAt p (st .code + n))
+    local-word n l =
+        let e : length (localItems own 0 locals) ≡ localWords st name locals = local-length st name own locals in
+        let q = local-at own 0 locals n (omega arith) in
+        let z : 0 + n ≡ n = omega arith in
+        record {
+          value = q .value;
+          is = code-at n (omega (arith, length-append (localItems own 0 locals) (Word.link own ∷ fixedWords over (procedureWords body at))))
+              ∙ List·getD-append (localItems own 0 locals) (Word.link own ∷ fixedWords over (procedureWords body at)) Word.free n (omega arith)
+              ∙ q .is ∙ ap (λ (k : ℕ). Word.cell (CellId.named (Id.local own k)) (q .value)) z;
+        }
+
+    after-locals : (j : ℕ) → j < suc (length (procedureWords body at)) → mapAt p (at + j) ≡ getD (Word.link own ∷ fixedWords over (procedureWords body at)) j Word.free
+    after-locals j l =
+        let e : length (localItems own 0 locals) ≡ localWords st name locals = local-length st name own locals in
+        let q : length codes ≡ localWords st name locals + suc (length (procedureWords body at)) = procedure-length st name own locals over (procedureWords body at) in
+        let z : at + j ≡ st .code + (length (localItems own 0 locals) + j) = omega arith in
+        ap (mapAt p) z ∙ code-at (length (localItems own 0 locals) + j) (omega arith)
+        ∙ getD-append-add (localItems own 0 locals) (Word.link own ∷ fixedWords over (procedureWords body at)) j Word.free
+
+    pub link-word : mapAt p at ≡ Word.link own
+    link-word = let z : at ≡ at + 0 = omega arith in ap (mapAt p) z ∙ after-locals 0 (omega arith)
+
+    pub body-fixed : Fixed (mapAt p) over (suc at) (procedureWords body at)
+    body-fixed = fixed-from (mapAt p) over (procedureWords body at) (suc at) (λ j l. let z : suc at + j ≡ at + suc j = omega arith in ap (mapAt p) z ∙ after-locals (suc j) (omega arith))
+
+    pub procedure-word : ProcedureWord (mapAt p) own (0o200 + own)
+    unfolding placeDeclaration step declare wordsTaken
+    procedure-word =
+        let few : own < 384 = h .ok .0 .0 in
+        let top : st .array ≤ 16383 = h .room .top in
+        let low : 512 * sectorOf st ≤ st .code = h .room .low in
+        let fit = code-room .0 in
+        let g = lay-global st (h .room) m (h .size) (Word.fixed at ∷ []) (omega arith) in
+        let e : length codes ≡ localWords st name locals + suc (length (procedureWords body at)) = procedure-length st name own locals over (procedureWords body at) in
+        record {
+          below = omega arith;
+          link = at;
+          here = stays (Declaration.procedure name accumulator locals body) h (0o200 + own) (Outside.global (omega arith))
+              ∙ placed-before (placed m (0o200 + own) (Word.fixed at ∷ [])) (st .code) codes (omega (arith, g .size)) (0o200 + own) (omega arith)
+              ∙ placed-first m (0o200 + own) (Word.fixed at) [] (omega (arith, h .size));
+          small = omega arith;
+          item = link-word;
+        }

@@ -1,0 +1,191 @@
+-- The parts of forms that hold no expression or statement, laid, are followed by the machine: cells, unary words, operations, tests, relations, ends. Assumes nothing.
+use Prim.Native.Nat.{ℕ, zero, suc, _+_, _%_, _≤_, _<_}
+use mathlib.Core.Path.{_≡_, sym, subst}
+use mathlib.Core.Bool.{Bool, true, false}
+use mathlib.Core.List.{List}
+use native.Mathlib.Nat.{le-refl, le-trans}
+use native.Mathlib.Omega.{arith}
+use lib.Dec.{eqb}
+use Rattle.word.specs.Arithmetic.{compareOf}
+use Rattle.word.proofs.Bounds.{compare-below}
+use Rattle.effect.specs.Skips.{skipsOf}
+use Rattle.instruction.specs.Code.{STA, CAS, IRS, LDX}
+use Rattle.instruction.specs.Slot.{SPL}
+use Rattle.instruction.specs.declared.Instruction.the-variants.{Generic}
+use Rattle.instruction.proofs.Choice.{cond-when}
+use Rattle.machine.specs.State as machine
+use Rattle.syntax.specs.Tree.{CellId, Array, Subscript, Cell, Unary, Operation, Relation, Target}
+use Rattle.syntax.specs.Emission.{controls, targetCell}
+use Rattle.emission.specs.Map.{Word}
+use Rattle.semantics.specs.Trace.{State, Trace, bind, next, ended}
+use Rattle.semantics.specs.Acts.{tick, xCell, Place, placeOf, valueOf, subscripted, isInside, element, asPlace, reach, operate, storeA, setX, absolute, test, jump, counted}
+use Rattle.semantics.specs.Meaning.{unaryOn, unariesOn, operationOn, operationsOn, chosen, orderOf, wordsAfter, ticks, related, assigned}
+use Rattle.semantics.specs.Laid.{Map, Sound, Sits, Refers, ArrayWord, LaidSubscript, LaidCell, LaidOn, LaidJump, LaidUnary, LaidUnaries, LaidOperations, LaidControls}
+use Rattle.semantics.proofs.Simulation.Relate.{Links, At, stands, Ok, ok-done, ok-broke, ok-observe, follow}
+use Rattle.semantics.proofs.Simulation.Orders as orders
+use Rattle.semantics.proofs.Simulation.Orders.{Located, Reads, Skips, do-generic, do-shift, do-test, do-read, do-store, do-load-x, do-jump, do-compare, do-count, located-direct, located-element}
+use Rattle.semantics.proofs.Simulation.Classes.{operator-reads, complement-acts, sign-skips, unary-acts}
+use Rattle.semantics.proofs.Simulation.Control.{fork, skipped, order-skips, table, jump-below, within, sim-controls}
+
+pub le₁ : (n : ℕ) → n ≤ suc n
+le₁ n = omega arith
+
+pub le₂ : (n : ℕ) → n ≤ suc (suc n)
+le₂ n = omega arith
+
+module _ (M : Map) (sound : Sound M) (s₀ : machine.State) (N : ℕ) where
+  -- the trace is followed, and its end stands at p
+  abbrev pub Follows : Links → ℕ → ℕ → Trace (Unit {0}) → Type 0
+  Follows κ p low t = Ok M sound s₀ N (λ u σ m. At M sound s₀ κ p σ m) low t
+
+  -- a test goes on at b or at z
+  abbrev pub Forks : Links → ℕ → ℕ → ℕ → Trace Bool → Type 0
+  Forks κ b z low t = Ok M sound s₀ N (λ v σ m. At M sound s₀ κ (fork b z v) σ m) low t
+
+  -- ---- Cells
+
+  sim-subscript : {κ : Links} {s : Subscript} {a b : ℕ} {σ : State} {m : List ℕ} → LaidSubscript M s a b → At M sound s₀ κ a σ m
+      → (n : List ℕ) × At M sound s₀ κ b (subscripted s σ) n × (σ .steps ≤ subscripted s σ .steps)
+  unfolding subscripted
+  sim-subscript {σ = σ} (LaidSubscript.by r d) h = (_, do-load-x M sound s₀ h r (located-direct M sound s₀ h d), le₁ (σ .steps))
+  sim-subscript {m = m} LaidSubscript.hash h = (m, h, le-refl _)
+
+  -- the operand of the instruction at b
+  abbrev Found : Links → ℕ → Bool → ℕ → Place → State → List ℕ → Type 0
+  Found κ b indirect k l σ m = At M sound s₀ κ b σ m × Located M m indirect k l
+
+  sim-element : {κ : Links} {r : Array} {b k low : ℕ} {σ : State} {m : List ℕ} → low ≤ σ .steps → ArrayWord M r k → At M sound s₀ κ b σ m
+      → Ok M sound s₀ N (λ j. Found κ b true k (Place.held j)) low (element r σ)
+  unfolding element
+  sim-element {κ} {r} {b} {k} {low} {σ} {m} l w h =
+      cond-when (λ (t : Trace CellId). Ok M sound s₀ N (λ j. Found κ b true k (Place.held j)) low t) (isInside r (σ .cells xCell)) _ _
+      (λ e. ok-done m l (h, located-element M sound s₀ h w e))
+      (λ e. ok-broke l (stands M sound s₀ h))
+
+  sim-cell : {κ : Links} {c : Cell} {a b k : ℕ} {indirect : Bool} {σ : State} {m : List ℕ} → LaidCell M c a b indirect k → At M sound s₀ κ a σ m
+      → Ok M sound s₀ N (Found κ b indirect k) (σ .steps) (reach c σ)
+  unfolding reach asPlace
+  sim-cell {m = m} (LaidCell.plain d) h = ok-done m (le-refl _) (h, located-direct M sound s₀ h d)
+  sim-cell (LaidCell.item s w) h =
+      let r = sim-subscript s h in follow M sound s₀ (sim-element (r .2) w (r .1)) (λ j σ₁ m₁ l q. ok-done m₁ (le-refl _) q)
+
+  pub sim-read : {κ : Links} {code a b : ℕ} {c : Cell} {σ : State} {m : List ℕ} → Reads code → LaidOn M code c a b → At M sound s₀ κ a σ m
+      → Follows κ b (σ .steps) (bind (reach c σ) (operate code))
+  unfolding operate
+  sim-read reads (LaidOn.on c r) h = follow M sound s₀ (sim-cell c h) (λ l σ m le q. ok-done m (le₁ (σ .steps)) (do-read M sound s₀ (q .0) reads r (q .1)))
+
+  pub sim-set-x : {κ : Links} {c : Cell} {a b : ℕ} {σ : State} {m : List ℕ} → LaidOn M LDX c a b → At M sound s₀ κ a σ m
+      → Follows κ b (σ .steps) (bind (reach c σ) setX)
+  unfolding setX
+  sim-set-x (LaidOn.on c r) h = follow M sound s₀ (sim-cell c h) (λ l σ m le q. ok-done _ (le₁ (σ .steps)) (do-load-x M sound s₀ (q .0) r (q .1)))
+
+  pub sim-assigned : {κ : Links} {a b : ℕ} {σ : State} {m : List ℕ} (t : Target) → LaidOn M STA (targetCell t) a b → At M sound s₀ κ a σ m
+      → Follows κ b (σ .steps) (assigned t σ)
+  unfolding assigned storeA targetCell placeOf
+  sim-assigned {σ = σ} (Target.integer i) (LaidOn.on (LaidCell.plain d) r) h =
+      ok-done _ (le₁ (σ .steps)) (do-store M sound s₀ h r (located-direct M sound s₀ h d))
+  sim-assigned (Target.item a s) (LaidOn.on (LaidCell.item c w) r) h =
+      let x = sim-subscript c h in
+      follow M sound s₀ (sim-element (x .2) w (x .1)) (λ j σ₁ m₁ le q. ok-done _ (le₁ (σ₁ .steps)) (do-store M sound s₀ (q .0) r (q .1)))
+
+  -- ---- Unary words and operations
+
+  abbrev Moves : Links → ℕ → State → State → List ℕ → Type 0
+  Moves κ b σ τ m = At M sound s₀ κ b τ m × (σ .steps ≤ τ .steps)
+
+  pub moved : {κ : Links} {b low : ℕ} {τ : State} {m : List ℕ} → At M sound s₀ κ b τ m → low ≤ τ .steps → Follows κ b low (Trace.done tt τ)
+  moved {m = m} h l = ok-done m l h
+
+  sim-unary : {κ : Links} {u : Unary} {a b : ℕ} {σ : State} {m : List ℕ} → LaidUnary M u a b → At M sound s₀ κ a σ m → Moves κ b σ (unaryOn u σ) m
+  unfolding unaryOn absolute
+  sim-unary {κ} {u} {a} {b} {σ} {m} (LaidUnary.one {slot = slot} e s) h =
+      let acts = unary-acts u slot e in
+      subst (λ (τ : State). Moves κ b σ τ m) (sym (acts .1 σ)) (do-generic M sound s₀ h (acts .0) s, le₁ (σ .steps))
+  sim-unary {κ} {u} {a} {b} {σ} {m} (LaidUnary.abs s t) h =
+      cond-when (λ (τ : State). Moves κ b σ τ m) (skipsOf SPL (σ .registers) (σ .switches)) _ _
+      (λ e. (do-test M sound s₀ h sign-skips s true e (orders.over _ (t .below)), le₁ (σ .steps)))
+      (λ e. (do-generic M sound s₀ (do-test M sound s₀ h sign-skips s false e (orders.next _ (s .below))) complement-acts t, le₂ (σ .steps)))
+
+  pub sim-unaries : {κ : Links} {us : List Unary} {a b : ℕ} {σ : State} {m : List ℕ} → LaidUnaries M us a b → At M sound s₀ κ a σ m
+      → Moves κ b σ (unariesOn us σ) m
+  unfolding unariesOn
+  sim-unaries LaidUnaries.none h = (h, le-refl _)
+  sim-unaries (LaidUnaries.more us u) h =
+      let x = sim-unaries us h in
+      let y = sim-unary u (x .0) in
+      (y .0, le-trans (x .1) (y .1))
+
+  pub sim-operations : {κ : Links} {os : List Operation} {a b : ℕ} {σ : State} {m : List ℕ} → LaidOperations M os a b → At M sound s₀ κ a σ m
+      → Follows κ b (σ .steps) (operationsOn os σ)
+  unfolding operationsOn operationOn next
+  sim-operations {m = m} LaidOperations.none h = ok-done m (le-refl _) h
+  sim-operations (LaidOperations.binary {o = o} c os) h = follow M sound s₀ (sim-read (operator-reads o) c h) (λ u σ₁ m₁ l h₁. sim-operations os h₁)
+  sim-operations {σ = σ} {m = m} (LaidOperations.shift s os) h =
+      follow M sound s₀ (moved (do-shift M sound s₀ h s) (le₁ (σ .steps))) (λ u σ₁ m₁ l h₁. sim-operations os h₁)
+
+  -- ---- Tests and relations
+
+  pub sim-test : {κ : Links} {slot n z : ℕ} {σ : State} {m : List ℕ} → Skips slot → Sits M n (Generic slot) → LaidJump M (suc n) z
+      → At M sound s₀ κ n σ m → Forks κ (suc (suc n)) z (σ .steps) (test slot σ)
+  unfolding test
+  sim-test {κ} {slot} {n} {z} {σ} {m} skips s j h =
+      cond-when (λ (t : Trace Bool). Forks κ (suc (suc n)) z (σ .steps) t) (skipsOf slot (σ .registers) (σ .switches)) _ _
+      (λ e. ok-done m (le₁ (σ .steps)) (do-test M sound s₀ h skips s true e (orders.over n (jump-below M sound s₀ j))))
+      (λ e. ok-done m (le₂ (σ .steps)) (do-jump M sound s₀ (do-test M sound s₀ h skips s false e (orders.next n (s .below))) j))
+
+  ticks-up : (n : ℕ) (σ : State) → σ .steps ≤ ticks n σ .steps
+  unfolding ticks
+  ticks-up zero σ = le-refl _
+  ticks-up (suc n) σ = le-trans (le₁ (σ .steps)) (ticks-up n (tick σ))
+
+  -- CAS and the words after it
+  sim-related : {κ : Links} {k n b z : ℕ} {indirect : Bool} {l : Place} {σ : State} {m : List ℕ} (r : Relation) → Refers M n CAS indirect k
+      → LaidControls M z (controls r) (suc n) b → At M sound s₀ κ n σ m → Located M m indirect k l → Forks κ b z (σ .steps) (related r l σ)
+  unfolding related ticks
+  sim-related {κ} {k} {n} {b} {z} {indirect} {l} {σ} {m} r s c h o =
+      let v = compareOf (σ .registers .a) (valueOf l σ) in
+      let same : skipped (orderOf v) ≡ v = order-skips v (compare-below (σ .registers .a) (valueOf l σ)) in
+      let row = table r (orderOf v) in
+      let inside : v + suc n < 16384 = subst (λ (j : ℕ). j + suc n < 16384) same (within M sound s₀ c (skipped (orderOf v)) (row .2) (s .sits .below)) in
+      let there = subst (λ (j : ℕ). At M sound s₀ κ (j + suc n) (tick σ) m) (sym same) (do-compare M sound s₀ h s o inside) in
+      ok-done m (ticks-up (suc (wordsAfter r (orderOf v))) σ) (rw (row .0) at (sim-controls M sound s₀ c (skipped (orderOf v)) (row .1) (tick σ) there))
+
+  pub sim-relation : {κ : Links} {a n b z : ℕ} {c : Cell} {σ : State} {m : List ℕ} (r : Relation) → LaidOn M CAS c a n → LaidControls M z (controls r) n b
+      → At M sound s₀ κ a σ m → Forks κ b z (σ .steps) (bind (reach c σ) (related r))
+  sim-relation r (LaidOn.on c s) k h = follow M sound s₀ (sim-cell c h) (λ l σ₁ m₁ le q. sim-related r s k (q .0) (q .1))
+
+  -- a test, and what follows on either way
+  pub branch : {κ : Links} {p z b low : ℕ} {t : Trace Bool} {f g : State → Trace (Unit {0})} → Forks κ p z low t
+      → ((σ : State) (m : List ℕ) → low ≤ σ .steps → At M sound s₀ κ p σ m → Follows κ b (σ .steps) (f σ))
+      → ((σ : State) (m : List ℕ) → low ≤ σ .steps → At M sound s₀ κ z σ m → Follows κ b (σ .steps) (g σ))
+      → Follows κ b low (bind t (chosen f g))
+  unfolding chosen
+  branch {κ} {p} {z} {b} {low} {t} {f} {g} k yes-way no-way = follow M sound s₀ k go
+    where
+      go : (v : Bool) (σ : State) (m : List ℕ) → low ≤ σ .steps → At M sound s₀ κ (fork p z v) σ m → Follows κ b (σ .steps) (chosen f g v σ)
+      go true σ m l h = yes-way σ m l h
+      go false σ m l h = no-way σ m l h
+
+  -- IRS: on to the JMP, or past it
+  pub sim-counted : {κ : Links} {n k v : ℕ} {i : CellId} {σ : State} {m : List ℕ} (u : Unit {0}) → Refers M n IRS false k → k < 16384 → M k ≡ Word.cell i v
+      → suc (suc n) < 16384 → At M sound s₀ κ n σ m → Forks κ (suc n) (suc (suc n)) (σ .steps) (counted i u σ)
+  unfolding counted
+  sim-counted {κ} {n} {k} {v} {i} {σ} {m} u r kb here b h =
+      cond-when (λ (t : Trace Bool). Forks κ (suc n) (suc (suc n)) (σ .steps) t) (eqb ((σ .cells i + 1) % 65536) 0) _ _
+      (λ e. ok-done _ (le₁ (σ .steps)) (do-count M sound s₀ h r kb here true e (orders.over n b)))
+      (λ e. ok-done _ (le₁ (σ .steps)) (do-count M sound s₀ h r kb here false e (orders.next n (r .sits .below))))
+
+  -- ---- Ends
+
+  pub stay : {κ : Links} {b low : ℕ} (σ : State) (m : List ℕ) → low ≤ σ .steps → At M sound s₀ κ b σ m → Follows κ b (σ .steps) (Trace.done tt σ)
+  stay σ m l h = ok-done m (le-refl _) h
+
+  -- the JMP after a part
+  pub then-jump : {κ : Links} {n b low : ℕ} {t : Trace (Unit {0})} → Follows κ n low t → LaidJump M n b → Follows κ b low (bind t jump)
+  unfolding jump
+  then-jump k j = follow M sound s₀ k (λ u σ m l h. ok-done m (le₁ (σ .steps)) (do-jump M sound s₀ h j))
+
+  -- the end of a statement
+  pub at-end : {κ : Links} {b low : ℕ} {t : Trace (Unit {0})} → Follows κ b low t → Follows κ b low (bind t ended)
+  unfolding ended
+  at-end k = follow M sound s₀ k (λ u σ m l h. ok-observe (le-refl _) (stands M sound s₀ h) (ok-done m (le-refl _) h))
