@@ -3,7 +3,7 @@ use Prim.Native.Nat.{ℕ, zero, suc, _+_, _-_, _*_, _/_, _≤_, _<_}
 use mathlib.Core.Path.{_≡_, refl, sym, ap, _∙_, subst}
 use mathlib.Core.Bool.{Bool}
 use mathlib.Core.Logic.{_⊎_, inl, inr}
-use mathlib.Core.List.{List, [], _∷_, _++_, map, append-assoc, append-nil, List·Memᴰ, List·Memᴰ·cases-cons}
+use mathlib.Core.List.{List, [], _∷_, _++_, map, append-nil, List·Memᴰ, List·Memᴰ·cases-cons}
 use native.Mathlib.Omega.{arith}
 use lib.ListN.{length, getD, replicate, length-append, length-replicate, List·getD-append}
 use Rattle.syntax.specs.Tree.{Id, CellId, Operand, Name, Item, Stmts, Declaration, Program}
@@ -19,7 +19,7 @@ use Rattle.semantics.specs.Known.{mapAt}
 use Rattle.semantics.proofs.MemoryMap.Bodies.{Near, Body, Placement}
 use Rattle.semantics.proofs.MemoryMap.Placing.{placed-in, placed-first}
 use Rattle.semantics.proofs.MemoryMap.Pools.{Prefix, prefix-refl, all-hold}
-use Rattle.semantics.proofs.MemoryMap.Front.{kinds-cons}
+use Rattle.semantics.proofs.Acceptance.Scopes.{kinds-append}
 use Rattle.semantics.proofs.MemoryMap.Items.{Local, fixed-length, fixed-from}
 use Rattle.semantics.proofs.MemoryMap.Kept.{Room, Outside}
 use Rattle.semantics.proofs.MemoryMap.Here.{Here, next, placing, split, tail, tail-length, last-pool, kept, empty, begin}
@@ -36,13 +36,6 @@ some-cell : (ks ls : List Kind) (n : ℕ) → getD ks n Kind.none ≡ Kind.cell 
 some-cell [] ls n e = let z : _≡_ {A = ℕ} 0 1 = cc in absurd (omega arith)
 some-cell (k ∷ ks) ls zero e = e
 some-cell (k ∷ ks) ls (suc n) e = some-cell ks ls n e
-
-kinds-append : (ds es : List Declaration) → kindsOf (ds ++ es) ≡ kindsOf ds ++ kindsOf es
-unfolding kindsOf
-kinds-append [] es = refl
-kinds-append (d ∷ ds) es =
-    kinds-cons d (ds ++ es) ∙ ap (λ (l : List Kind). kindsOf (d ∷ []) ++ l) (kinds-append ds es) ∙ sym (append-assoc (kindsOf (d ∷ [])) (kindsOf ds) (kindsOf es))
-    ∙ ap (λ (l : List Kind). l ++ kindsOf es) (sym (kinds-cons d ds))
 
 module _ (p : Program) (w : WellFormed p) where
   -- ---- Globals

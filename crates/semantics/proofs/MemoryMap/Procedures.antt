@@ -4,11 +4,12 @@ use mathlib.Core.Path.{_≡_, refl, sym, ap, subst, _∙_}
 use mathlib.Core.List.{List, [], _∷_, _++_}
 use native.Mathlib.Nat.{add-zero, zero-add, add-assoc}
 use native.Mathlib.Omega.{arith}
-use lib.ListN.{length, getD}
+use lib.ListN.{length, getD, length-append}
 use Rattle.syntax.specs.Tree.{Item, Declaration}
 use Rattle.semantics.specs.Meaning.{globalsOf}
 use Rattle.semantics.specs.WellFormed.{Kind, kindsOf}
 use Rattle.semantics.specs.Laid.{Known, Knows}
+use Rattle.semantics.proofs.MemoryMap.Front.{kinds-cons}
 use Rattle.semantics.specs.Known.{withProcedure, knownFrom, knownOf}
 
 -- those known before stay
@@ -57,14 +58,8 @@ count-one (Declaration.array name size values) = refl
 count-one (Declaration.procedure name accumulator locals body) = refl
 count-one Declaration.nextSector = refl
 
-kinds-cons : (d : Declaration) (ds : List Declaration) → length (kindsOf (d ∷ ds)) ≡ length (kindsOf (d ∷ [])) + length (kindsOf ds)
-unfolding kindsOf
-kinds-cons (Declaration.item name Item.integer) ds = omega arith
-kinds-cons (Declaration.item name (Item.constant v)) ds = omega arith
-kinds-cons (Declaration.item name (Item.compconstant v)) ds = omega arith
-kinds-cons (Declaration.array name size values) ds = omega arith
-kinds-cons (Declaration.procedure name accumulator locals body) ds = omega arith
-kinds-cons Declaration.nextSector ds = omega arith
+kinds-more : (d : Declaration) (ds : List Declaration) → length (kindsOf (d ∷ ds)) ≡ length (kindsOf (d ∷ [])) + length (kindsOf ds)
+kinds-more d ds = ap length (kinds-cons d ds) ∙ length-append (kindsOf (d ∷ [])) (kindsOf ds)
 
 known-append : (m : ℕ) (ps : Known) (ds : List Declaration) (d : Declaration)
     → knownFrom m ps (ds ++ (d ∷ [])) ≡ withProcedure (m + length (kindsOf ds)) (knownFrom m ps ds) d
@@ -75,7 +70,7 @@ known-append m ps (c ∷ ds) d =
     ∙ ap (λ (k : ℕ). withProcedure k (knownFrom (m + globalsOf c) (withProcedure m ps c) ds) d) (counts m c ds)
   where
     counts : (m : ℕ) (c : Declaration) (ds : List Declaration) → m + globalsOf c + length (kindsOf ds) ≡ m + length (kindsOf (c ∷ ds))
-    counts m c ds = add-assoc m (globalsOf c) (length (kindsOf ds)) ∙ ap (λ (k : ℕ). m + k) (ap (λ (k : ℕ). k + length (kindsOf ds)) (count-one c) ∙ sym (kinds-cons c ds))
+    counts m c ds = add-assoc m (globalsOf c) (length (kindsOf ds)) ∙ ap (λ (k : ℕ). m + k) (ap (λ (k : ℕ). k + length (kindsOf ds)) (count-one c) ∙ sym (kinds-more c ds))
 
 pub known-snoc : (ds : List Declaration) (d : Declaration) → knownOf (ds ++ (d ∷ [])) ≡ withProcedure (length (kindsOf ds)) (knownOf ds) d
 known-snoc ds d = known-append 0 [] ds d ∙ ap (λ (k : ℕ). withProcedure k (knownOf ds) d) (zero-add (length (kindsOf ds)))
@@ -97,7 +92,7 @@ below-from m ps [] h q k = let l = h q k in omega arith
 below-from m ps (d ∷ ds) h q k =
     let l = below-from (m + globalsOf d) (withProcedure m ps d) ds (below-one m ps d h) q k in
     let e = count-one d in
-    let c = kinds-cons d ds in
+    let c = kinds-more d ds in
     omega arith
 
 no-procedure : (q : ℕ) {ps : Known} → ps ≡ [] → Knows ps q → q < 0

@@ -1,44 +1,28 @@
 -- No cell and no link stands twice in the map of a program. Assumes nothing.
 use Prim.Native.Nat.{ℕ, _+_, _-_, _≤_}
 use mathlib.Core.Path.{_≡_, refl, sym, ap, subst, _∙_}
-use mathlib.Core.List.{List, [], _∷_, _++_, map, foldl}
-use native.Mathlib.Nat.{add-zero, zero-add, le-refl, le-trans}
+use mathlib.Core.List.{List, [], _∷_, _++_, map}
+use native.Mathlib.Nat.{zero-add, le-refl, le-trans}
 use native.Mathlib.Omega.{arith}
-use lib.ListN.{length, getD, replicate, length-replicate, length-append}
+use lib.ListN.{length, getD, replicate, length-replicate}
 use Rattle.syntax.specs.Tree.{Id, CellId, Name, Item, Declaration, Program}
 use Rattle.syntax.specs.Emission.{procedureWords, mainWords}
-use Rattle.syntax.specs.Symbols.{Scope, itemSymbol, wordsTaken, declare, declareItem, localScope}
 use Rattle.syntax.specs.State.{State, start, localWords, linkOf, stateAfter}
-use Rattle.emission.specs.Map.{Word, Plan, frame, wordOf, fixedWords, placed, itemWords, localItems, placeDeclaration, placeAll, planOf, mapOf}
+use Rattle.emission.specs.Map.{Word, Plan, frame, wordOf, fixedWords, placed, localItems, placeDeclaration, placeAll, planOf, mapOf}
 use Rattle.emission.specs.Map as map
 use Rattle.semantics.specs.WellFormed.{WellFormed}
 use Rattle.semantics.specs.Known.{mapAt}
 use Rattle.semantics.proofs.MemoryMap.AtHome.{Spots, AtHome, at-home, homes-append, homes-fixed, homes-free, Settled, settle, item-home, locals-home, elements-home}
 use Rattle.semantics.proofs.MemoryMap.AtHome as homes
+use Rattle.semantics.proofs.MemoryMap.Items.{local-length}
 use Rattle.semantics.proofs.MemoryMap.Fitting.{Fits, AllFit, all-fit, main-fits, array-down, arrays-down}
 use Rattle.semantics.proofs.MemoryMap.Fitting as fit
 use Rattle.semantics.proofs.MemoryMap.Spots.{spotsFrom, Spotted, AllSpotted, last, next, all-spotted}
 
 -- ---- The link follows the locals
 
-item-words : (scope : Scope) (i : Id) (item : Item) → wordsTaken (itemSymbol scope item) ≡ length (itemWords i item)
-unfolding wordsTaken itemSymbol itemWords
-item-words scope i Item.integer = refl
-item-words scope i (Item.constant v) = refl
-item-words scope i (Item.compconstant v) = refl
-
-locals-length : (scope : Scope) (q n : ℕ) (ls : List (Name × Item)) → foldl declareItem scope ls .words ≡ scope .words + length (localItems q n ls)
-unfolding declareItem declare localItems
-locals-length scope q n [] = sym (add-zero (scope .words))
-locals-length scope q n (l ∷ ls) =
-    let i : Id = Id.local q n in
-    let c : ℕ = length (itemWords i (l .1)) in
-    let r = locals-length (declareItem scope l) q (n + c) ls in
-    omega (arith, item-words scope i (l .1), length-append (itemWords i (l .1)) (localItems q (n + c) ls))
-
 local-words : (st : State) (name : Name) (ls : List (Name × Item)) (q : ℕ) → localWords st name ls ≡ length (localItems q 0 ls)
-unfolding localWords localScope
-local-words st name ls q = locals-length (localScope (st .scope) name) q 0 ls ∙ zero-add (length (localItems q 0 ls))
+local-words st name ls q = sym (local-length st name q ls)
 
 -- ---- Each declaration keeps the map settled
 
