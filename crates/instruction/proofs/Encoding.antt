@@ -5,20 +5,21 @@ use mathlib.Core.Logic.{_⊎_, inl, inr}
 use mathlib.Core.Bool.{Bool, true, false, cond}
 use mathlib.Core.List.{List, [], _∷_, List·Memᴰ, List·Memᴰ·head, List·Memᴰ·tail}
 use native.Mathlib.Omega.{arith}
-use lib.Dec.{T, eqb, leb, ltb}
+use lib.ListN.{getD}
+use lib.Dec.{T, eqb, eqb→eq, leb, ltb}
 use borrow.Author.Tests.{ltb-false, leb-true, leb-false, eqb-true, eqb-false, le-ltb, le-leb, lt-leb, eq-eqb, ne-eqb}
 use Rattle.word.specs.Arithmetic.{bit}
 use Rattle.word.specs.Shift.{LGR, ARR, LGL, ALR}
 use Rattle.instruction.specs.declared.Instruction.{Instruction}
 use Rattle.instruction.specs.declared.Instruction.the-variants.{Memory, Shift, Generic, Unknown}
 use Rattle.instruction.specs.Code.{JMP, IRS, LDX}
-use Rattle.instruction.specs.Table.{Row, row, generics}
+use Rattle.instruction.specs.Table.{Row, row, generics, tableOf}
 use Rattle.instruction.specs.Decode.{findWord, genericOf, isShift, shiftOf, flagAt, codeOf, memoryWith, memoryOf, decodeDef}
 use Rattle.instruction.specs.Encode.{memoryWord, shiftWord, Encodes, memory, loadX, shift, generic}
 use Rattle.instruction.specs.Agreement.{UnknownExactly, Agreement}
 use Rattle.instruction.proofs.Every.{both, both-left, both-right}
 use Rattle.instruction.proofs.Choice.{cond-when, cond-all}
-use Rattle.instruction.proofs.Rows.{isAt, is-at}
+use Rattle.instruction.proofs.Rows.{isAt, is-at, decode-same}
 
 -- a flag and its bit
 bit-below : (b : Bool) → bit b < 2
@@ -110,23 +111,24 @@ decode-shift kind n e l h =
     let x : 64 - (64 - n) ≡ n = omega arith in
     simp (u, c, t, m, d, b, e, x)
 
+-- a test that every row of a table passes, and so each of its members
+all-rows : (Row → Bool) → List Row → Bool
+all-rows f [] = true
+all-rows f (r ∷ rs) = both (f r) (all-rows f rs)
+
+member-row : (f : Row → Bool) (r : Row) (rows : List Row) → T (all-rows f rows) → List·Memᴰ r rows → T (f r)
+unfolding all-rows
+member-row f r (x ∷ rows) t (List·Memᴰ·head e) = subst (λ (y : Row). T (f y)) (sym e) (both-left (f x) (all-rows f rows) t)
+member-row f r (x ∷ rows) t (List·Memᴰ·tail m) = member-row f r rows (both-right (f x) (all-rows f rows) t) m
+
 -- each row of the table decodes to its slot: one test
 row-decodes : Row → Bool
 unfolding isAt decodeDef genericOf findWord generics shiftOf memoryOf
 row-decodes r = isAt (r .slot) (decodeDef (r .word))
 
-all-decode : List Row → Bool
-all-decode [] = true
-all-decode (r ∷ rs) = both (row-decodes r) (all-decode rs)
-
-member-decodes : (r : Row) (rows : List Row) → T (all-decode rows) → List·Memᴰ r rows → T (row-decodes r)
-unfolding all-decode
-member-decodes r (x ∷ rows) t (List·Memᴰ·head e) = subst (λ (y : Row). T (row-decodes y)) (sym e) (both-left (row-decodes x) (all-decode rows) t)
-member-decodes r (x ∷ rows) t (List·Memᴰ·tail m) = member-decodes r rows (both-right (row-decodes x) (all-decode rows) t) m
-
 decode-generic : (slot word : ℕ) → List·Memᴰ (row slot word) generics → decodeDef word ≡ Generic slot
-unfolding all-decode row-decodes isAt decodeDef genericOf findWord generics shiftOf memoryOf
-decode-generic slot word m = is-at slot (decodeDef word) (member-decodes (row slot word) generics tt m)
+unfolding all-rows row-decodes isAt decodeDef genericOf findWord generics shiftOf memoryOf
+decode-generic slot word m = is-at slot (decodeDef word) (member-row row-decodes (row slot word) generics tt m)
 
 pub encoded : {i : Instruction} {w : ℕ} → Encodes i w → decodeDef w ≡ i
 encoded (memory {code} {address} {indirect} {tag} {sector} l h nine) = decode-memory code address indirect tag sector l h nine
@@ -221,5 +223,14 @@ unknown-exactly w h = record {
     by none (inl e) = e
     by none (inr e) = absurd (none (decodeDef w) e)
 
+-- each row's word stands at its slot: one test
+row-stands : Row → Bool
+unfolding tableOf
+row-stands r = eqb (getD tableOf (r .slot) 0) (r .word)
+
+slots : (slot word : ℕ) → List·Memᴰ (row slot word) generics → getD tableOf slot 0 ≡ word
+unfolding all-rows row-stands tableOf generics
+slots slot word m = eqb→eq (getD tableOf slot 0) word (member-row row-stands (row slot word) generics tt m)
+
 pub agreement : Agreement
-agreement = record { encoded = encoded; known = known; unknown-exactly = unknown-exactly }
+agreement = record { encoded = encoded; known = known; unknown-exactly = unknown-exactly; decoder = decode-same; slots = slots }

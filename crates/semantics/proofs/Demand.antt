@@ -3,3 +3,4 @@ pub mod Programs
 pub mod Theorem
 pub mod Loading
 pub mod Recipes
+pub mod Passes

@@ -15,6 +15,7 @@ use Rattle.syntax.specs.Program.{parseProgram}
 use Rattle.syntax.specs.Computed as syntax
 use Rattle.semantics.specs.Trace.{State, Trace, bind, next, ended}
 use Rattle.semantics.specs.Acts.{updated, placeOf, valueOf, subscripted, isInside, element, asPlace, reach, operate, storeA, setX, absolute, test, jump, counted}
+use Rattle.semantics.specs.Variables.{itemVariables, itemConstants, wordsOf, localsBy, elementsOf, declaredBy, variablesOf, constantsOf}
 use Rattle.semantics.specs.Meaning.{unaryOn, unariesOn, operationOn, operationsOn, called, chosen, orderOf, holds, wordsAfter, ticks, related, whileTurns, forTurns, assigned, stmtsBy, termBy, condBy, exprBy, exprAt, bodyBy, stmtAt, globalsOf, withDeclaration, proceduresFrom, proceduresOf, meaning}
 
 -- every definition that a meaning rests on, listed once
@@ -83,9 +84,35 @@ rows =
     (".BEGIN .ACCUMULATOR .PROCEDURE P; .BEGIN @ = .INC @ .END; @ = P(1) + 1 .END", 0 ∷ 3 ∷ 5 ∷ [], Ending.done 5 3 0) ∷
     -- the value first, then LDX of the target; outside its array it breaks off there, X loaded
     (".BEGIN .ARRAY T[2]; T[-1] = 5 .END", 0 ∷ 3 ∷ [], Ending.done 3 5 65535) ∷
+    (".BEGIN .ARRAY T[2]; T[-2] = 5 .END", 0 ∷ 3 ∷ [], Ending.done 3 5 65534) ∷
     (".BEGIN .ARRAY T[2]; T[-3] = 5 .END", 0 ∷ [], Ending.broken 2 5 65533) ∷
+    (".BEGIN .ARRAY T[2]; T[0] = 5 .END", 0 ∷ [], Ending.broken 2 5 0) ∷
+    (".BEGIN .ARRAY T[1]; T[-1] = 5; T[-2] = 6 .END", 0 ∷ 3 ∷ [], Ending.broken 5 6 65534) ∷
+    (".BEGIN .ARRAY T[0]; T[-1] = 5 .END", 0 ∷ [], Ending.broken 2 5 65535) ∷
+    -- a value read from an array: LDX, LDA*
+    (".BEGIN .ARRAY T[2]; T[-1] = 5; @ = .ZERO; @ = T[-1] + T[#] .END", 0 ∷ 3 ∷ 4 ∷ 7 ∷ [], Ending.done 7 10 65535) ∷
+    (".BEGIN .ARRAY T[2]; @ = T[5] .END", 0 ∷ [], Ending.broken 1 7 5) ∷
+    -- `# =`; .WHEN taken; a compound's end after those in it
+    (".BEGIN # = 9 .END", 0 ∷ 1 ∷ [], Ending.done 1 7 9) ∷
+    (".BEGIN .WHEN @ .ODD .THEN .BEGIN X = @; @ = 1 .END .END", 0 ∷ 2 ∷ 3 ∷ 3 ∷ 3 ∷ [], Ending.done 3 1 7) ∷
+    -- a call with an argument, of a procedure that is not the first global; its local keeps its value from call to call
+    (".BEGIN .INTEGER I; .CONSTANT K=3; .COMPCONSTANT C=4; .ARRAY T[2]; .PROCEDURE P; .BEGIN .INTEGER L; L = @ + L; @ = L .END; P(3); P(C) .END", 0 ∷ 4 ∷ 5 ∷ 6 ∷ 10 ∷ 11 ∷ 12 ∷ [], Ending.done 12 7 0) ∷
     (".BEGIN .ARRAY T[2]; T[#] = 5 .END", 0 ∷ [], Ending.broken 1 5 0) ∷ []
 
 examples : map (λ row. shown (parseProgram (bytes (row .0)))) rows ≡ map {B = List ℕ × Ending} (λ row. (row .1, row .2)) rows
 unfolding computed
 examples = refl
+
+-- the cells that are declared: X, an integer, an array's elements from the lowest, a procedure's local; a constant is no variable
+abbrev cellsOf : Got Program → List CellId × List (CellId × ℕ)
+cellsOf (Got.got p next) = (variablesOf p, constantsOf p)
+cellsOf (Got.failed n at) = ([], [])
+
+variables :
+    cellsOf (parseProgram (bytes ".BEGIN .INTEGER I; .CONSTANT K=3; .COMPCONSTANT C=4; .ARRAY T[2]; .PROCEDURE P; .BEGIN .CONSTANT M=5; .INTEGER L; .END; .INTEGER J; .END"))
+    ≡ (
+      CellId.named Id.x ∷ CellId.named (Id.global 0) ∷ CellId.element 2 65534 ∷ CellId.element 2 65535 ∷ CellId.named (Id.local 3 1) ∷ CellId.named (Id.global 4) ∷ [],
+      (CellId.named (Id.global 1), 3) ∷ (CellId.named (Id.local 3 0), 5) ∷ [],
+    )
+unfolding computed variablesOf constantsOf declaredBy localsBy wordsOf itemVariables itemConstants elementsOf
+variables = refl

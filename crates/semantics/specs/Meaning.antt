@@ -57,6 +57,10 @@ unfoldable pub chosen : {B : Type 0} → (State → Trace B) → (State → Trac
 chosen f g true σ = f σ
 chosen f g false σ = g σ
 
+-- a part with no level of nesting left, or a procedure that is not declared: no source that is accepted has one, but for empty statements
+abbrev pub notThere : {A : Type 0} → A → State → Trace (Unit {0})
+notThere part σ = Trace.out σ
+
 -- ---- Conditions
 
 -- how A stands to the operand, by how many words CAS skips
@@ -160,13 +164,9 @@ module _ (procedures : Procedures) where
   exprBy inner (Expr.chain us t os) σ = bind (termBy inner t σ) (λ _ τ. operationsOn os (unariesOn us τ))
   exprBy inner (Expr.choose c s t) σ = bind (condBy inner c σ) (chosen (λ τ. bind (inner s τ) jump) (inner t))
 
-  -- a part with no level of nesting left: no source that is accepted has one, but for empty statements
-  abbrev pub tooDeep : {A : Type 0} → A → State → Trace (Unit {0})
-  tooDeep part σ = Trace.out σ
-
   -- with `left` levels of nesting left, its own among them
   unfoldable pub exprAt : ℕ → Expr → State → Trace (Unit {0})
-  exprAt zero e σ = tooDeep e σ
+  exprAt zero e σ = notThere e σ
   exprAt (suc left) e σ = exprBy (exprAt left) e σ
 
   -- ---- Statements
@@ -189,7 +189,7 @@ module _ (procedures : Procedures) where
 
     -- "inner before outer": a statement's end comes after those of the statements in it
     unfoldable pub stmtAt : ℕ → Stmt → State → Trace (Unit {0})
-    stmtAt zero s σ = bind (bodyBy tooDeep tooDeep tooDeep s σ) ended
+    stmtAt zero s σ = bind (bodyBy notThere notThere notThere s σ) ended
     stmtAt (suc left) s σ = bind (bodyBy (exprAt (suc left)) (stmtAt left) (stmtsBy (stmtAt left)) s σ) ended
 
 -- ---- Procedures and a program
@@ -220,7 +220,7 @@ proceduresFrom fuel n procedures [] = procedures
 proceduresFrom fuel n procedures (d ∷ ds) = proceduresFrom fuel (n + globalsOf d) (withDeclaration fuel n procedures d) ds
 
 unfoldable pub proceduresOf : ℕ → List Declaration → Procedures
-proceduresOf fuel ds = proceduresFrom fuel 0 (λ p σ. Trace.broke σ) ds
+proceduresOf fuel ds = proceduresFrom fuel 0 (λ p σ. notThere p σ) ds
 
 -- "Moments: the start .., then each statement's end", with fuel for the turns of each loop
 unfoldable pub meaning : ℕ → Program → State → Trace (Unit {0})

@@ -145,4 +145,4 @@ module _ (f g : ℕ) (l : f ≤ g) where
 
   pub more-fuel : (p : Program) (σ : State) → Begins (meaning f p σ) (meaning g p σ)
   unfolding meaning proceduresOf
-  more-fuel p σ = Begins.at-observe (outermost-begins (procedures-begin 0 (λ q τ. Begins.at-broke) (p .declarations)) f g l (p .main) σ)
+  more-fuel p σ = Begins.at-observe (outermost-begins (procedures-begin 0 {before = λ q τ. Trace.out τ} {after = λ q τ. Trace.out τ} (λ q τ. Begins.at-out) (p .declarations)) f g l (p .main) σ)

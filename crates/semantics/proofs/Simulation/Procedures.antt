@@ -84,4 +84,4 @@ module _ (M : Map) where
     pub obeys-all : (ds : List Declaration) → DeclarationsOk ds → LaidProcedures M (knownOf ds)
         → Obeys M sound s₀ N fuel (knownOf ds) (proceduresOf fuel ds)
     unfolding proceduresOf
-    obeys-all ds o k = obeys-from 0 [] (λ p σ. Trace.broke σ) ds (obeys-none M sound s₀ N fuel (λ p σ. Trace.broke σ)) (bodies-ok o) k
+    obeys-all ds o k = obeys-from 0 [] (λ p σ. Trace.out σ) ds (obeys-none M sound s₀ N fuel (λ p σ. Trace.out σ)) (bodies-ok o) k

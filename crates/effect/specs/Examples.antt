@@ -1,0 +1,135 @@
+-- The effects by example: every generic instruction and every shift by each amount, on words whose signs, bytes and bits differ. The results were worked out
+-- bit by bit from document 01's "Order table", apart from the definitions. Decided by computation. Assumes nothing.
+use Prim.Native.Nat.{ℕ}
+use mathlib.Core.Path.{_≡_, refl}
+use mathlib.Core.Bool.{Bool, true, false}
+use mathlib.Core.List.{List, [], _∷_, map}
+use Rattle.word.specs.Arithmetic.{flagged, sumOf, differenceOf}
+use Rattle.word.specs.Shift.{LGR, ARS, ARR, LGL, ALS, ALR, signChanges, shiftOf}
+use Rattle.word.specs.declared.Flagged.{Flagged}
+use Rattle.instruction.specs.Code.{LDA, ANA, ERA, ADD, SUB}
+use Rattle.instruction.specs.Slot.{SKP, NOP, SRC, SSC, SS1, SS2, SS3, SS4, SSS, SSR, SZE, SNZ, SPL, SMI, SLZ, SLN, CRA, CMA, TCA, CHS, SSP, SSM, CSA, CAR, CAL, ICL, AOA, ACA, ICR, ICA}
+use Rattle.effect.specs.declared.Registers.{Registers}
+use Rattle.effect.specs.declared.Switches.{Switches}
+use Rattle.effect.specs.Effects.{operateOf, unaryOf}
+use Rattle.effect.specs.Skips.{skipsOf}
+
+abbrev with : ℕ → Bool → Registers
+with a c = record { a = a; b = 9; c = c }
+
+-- A and C before
+abbrev before : List Registers
+before = with 0 false ∷ with 1 true ∷ with 32767 true ∷ with 32767 false ∷ with 32768 true ∷ with 65535 true ∷ with 4805 false ∷ with 42300 true ∷ []
+
+abbrev switches : Bool → Bool → Bool → Bool → Switches
+switches one two three four = record { one = one; two = two; three = three; four = four }
+
+-- ---- Instructions on A and C
+
+abbrev unaries : List (ℕ × List Registers)
+unaries =
+    (CRA, with 0 false ∷ with 0 true ∷ with 0 true ∷ with 0 false ∷ with 0 true ∷ with 0 true ∷ with 0 false ∷ with 0 true ∷ []) ∷
+    (CMA, with 65535 false ∷ with 65534 true ∷ with 32768 true ∷ with 32768 false ∷ with 32767 true ∷ with 0 true ∷ with 60730 false ∷ with 23235 true ∷ []) ∷
+    (TCA, with 0 false ∷ with 65535 true ∷ with 32769 true ∷ with 32769 false ∷ with 32768 true ∷ with 1 true ∷ with 60731 false ∷ with 23236 true ∷ []) ∷
+    (CHS, with 32768 false ∷ with 32769 true ∷ with 65535 true ∷ with 65535 false ∷ with 0 true ∷ with 32767 true ∷ with 37573 false ∷ with 9532 true ∷ []) ∷
+    (SSP, with 0 false ∷ with 1 true ∷ with 32767 true ∷ with 32767 false ∷ with 0 true ∷ with 32767 true ∷ with 4805 false ∷ with 9532 true ∷ []) ∷
+    (SSM, with 32768 false ∷ with 32769 true ∷ with 65535 true ∷ with 65535 false ∷ with 32768 true ∷ with 65535 true ∷ with 37573 false ∷ with 42300 true ∷ []) ∷
+    (CSA, with 0 false ∷ with 1 false ∷ with 32767 false ∷ with 32767 false ∷ with 0 true ∷ with 32767 true ∷ with 4805 false ∷ with 9532 true ∷ []) ∷
+    (CAR, with 0 false ∷ with 0 true ∷ with 32512 true ∷ with 32512 false ∷ with 32768 true ∷ with 65280 true ∷ with 4608 false ∷ with 42240 true ∷ []) ∷
+    (CAL, with 0 false ∷ with 1 true ∷ with 255 true ∷ with 255 false ∷ with 0 true ∷ with 255 true ∷ with 197 false ∷ with 60 true ∷ []) ∷
+    (ICL, with 0 false ∷ with 1 true ∷ with 255 true ∷ with 255 false ∷ with 0 true ∷ with 255 true ∷ with 197 false ∷ with 60 true ∷ []) ∷
+    (AOA, with 1 false ∷ with 2 false ∷ with 32768 true ∷ with 32768 true ∷ with 32769 false ∷ with 0 false ∷ with 4806 false ∷ with 42301 false ∷ []) ∷
+    (ACA, with 0 false ∷ with 2 false ∷ with 32768 true ∷ with 32767 false ∷ with 32769 false ∷ with 0 false ∷ with 4805 false ∷ with 42301 false ∷ []) ∷
+    (ICR, with 0 false ∷ with 256 true ∷ with 65280 true ∷ with 65280 false ∷ with 0 true ∷ with 65280 true ∷ with 50432 false ∷ with 15360 true ∷ []) ∷
+    (ICA, with 0 false ∷ with 256 true ∷ with 65407 true ∷ with 65407 false ∷ with 128 true ∷ with 65535 true ∷ with 50450 false ∷ with 15525 true ∷ []) ∷ []
+
+each-unary : map (λ row. map (unaryOf (row .0)) before) unaries ≡ map {B = List Registers} (λ row. row .1) unaries
+unfolding unaryOf sumOf
+each-unary = refl
+
+-- ---- Instructions with an operand
+
+abbrev operands : List (ℕ × ℕ × List Registers)
+operands =
+    (LDA, 23055, with 23055 false ∷ with 23055 true ∷ with 23055 true ∷ with 23055 false ∷ with 23055 true ∷ with 23055 true ∷ with 23055 false ∷ with 23055 true ∷ []) ∷
+    (ANA, 23055, with 0 false ∷ with 1 true ∷ with 23055 true ∷ with 23055 false ∷ with 0 true ∷ with 23055 true ∷ with 4613 false ∷ with 12 true ∷ []) ∷
+    (ERA, 23055, with 23055 false ∷ with 23054 true ∷ with 9712 true ∷ with 9712 false ∷ with 55823 true ∷ with 42480 true ∷ with 18634 false ∷ with 65331 true ∷ []) ∷
+    (ADD, 1, with 1 false ∷ with 2 false ∷ with 32768 true ∷ with 32768 true ∷ with 32769 false ∷ with 0 false ∷ with 4806 false ∷ with 42301 false ∷ []) ∷
+    (ADD, 32768, with 32768 false ∷ with 32769 false ∷ with 65535 false ∷ with 65535 false ∷ with 0 true ∷ with 32767 true ∷ with 37573 false ∷ with 9532 true ∷ []) ∷
+    (ADD, 65535, with 65535 false ∷ with 0 false ∷ with 32766 false ∷ with 32766 false ∷ with 32767 true ∷ with 65534 false ∷ with 4804 false ∷ with 42299 false ∷ []) ∷
+    (SUB, 1, with 65535 false ∷ with 0 false ∷ with 32766 false ∷ with 32766 false ∷ with 32767 true ∷ with 65534 false ∷ with 4804 false ∷ with 42299 false ∷ []) ∷
+    (SUB, 32768, with 32768 true ∷ with 32769 true ∷ with 65535 true ∷ with 65535 true ∷ with 0 false ∷ with 32767 false ∷ with 37573 true ∷ with 9532 false ∷ []) ∷
+    (SUB, 65535, with 1 false ∷ with 2 false ∷ with 32768 true ∷ with 32768 true ∷ with 32769 false ∷ with 0 false ∷ with 4806 false ∷ with 42301 false ∷ []) ∷ []
+
+each-operand : map (λ row. map (operateOf (row .0) (row .1)) before) operands ≡ map {B = List Registers} (λ row. row .2) operands
+unfolding operateOf sumOf differenceOf
+each-operand = refl
+
+-- ---- Skips: each test on A and C both ways, each switch alone
+
+abbrev quiet : Switches
+quiet = switches false false false false
+
+abbrev skips : List (ℕ × List Bool)
+skips =
+    (SKP, true ∷ true ∷ true ∷ true ∷ true ∷ true ∷ true ∷ true ∷ []) ∷
+    (NOP, false ∷ false ∷ false ∷ false ∷ false ∷ false ∷ false ∷ false ∷ []) ∷
+    (SRC, true ∷ false ∷ false ∷ true ∷ false ∷ false ∷ true ∷ false ∷ []) ∷
+    (SSC, false ∷ true ∷ true ∷ false ∷ true ∷ true ∷ false ∷ true ∷ []) ∷
+    (SZE, true ∷ false ∷ false ∷ false ∷ false ∷ false ∷ false ∷ false ∷ []) ∷
+    (SNZ, false ∷ true ∷ true ∷ true ∷ true ∷ true ∷ true ∷ true ∷ []) ∷
+    (SPL, true ∷ true ∷ true ∷ true ∷ false ∷ false ∷ true ∷ false ∷ []) ∷
+    (SMI, false ∷ false ∷ false ∷ false ∷ true ∷ true ∷ false ∷ true ∷ []) ∷
+    (SLZ, true ∷ false ∷ false ∷ false ∷ true ∷ false ∷ false ∷ true ∷ []) ∷
+    (SLN, false ∷ true ∷ true ∷ true ∷ false ∷ true ∷ true ∷ false ∷ []) ∷
+    (SS1, false ∷ false ∷ false ∷ false ∷ false ∷ false ∷ false ∷ false ∷ []) ∷
+    (SSS, false ∷ false ∷ false ∷ false ∷ false ∷ false ∷ false ∷ false ∷ []) ∷
+    (SSR, true ∷ true ∷ true ∷ true ∷ true ∷ true ∷ true ∷ true ∷ []) ∷
+    (CRA, false ∷ false ∷ false ∷ false ∷ false ∷ false ∷ false ∷ false ∷ []) ∷ []
+
+each-skip : map (λ row. map (λ r. skipsOf (row .0) r quiet) before) skips ≡ map {B = List Bool} (λ row. row .1) skips
+unfolding skipsOf
+each-skip = refl
+
+abbrev keys : List Switches
+keys = switches true false false false ∷ switches false true false false ∷ switches false false true false ∷ switches false false false true ∷ switches true true true true ∷ quiet ∷ []
+
+abbrev senses : List (ℕ × List Bool)
+senses =
+    (SS1, true ∷ false ∷ false ∷ false ∷ true ∷ false ∷ []) ∷
+    (SS2, false ∷ true ∷ false ∷ false ∷ true ∷ false ∷ []) ∷
+    (SS3, false ∷ false ∷ true ∷ false ∷ true ∷ false ∷ []) ∷
+    (SS4, false ∷ false ∷ false ∷ true ∷ true ∷ false ∷ []) ∷
+    (SSS, true ∷ true ∷ true ∷ true ∷ true ∷ false ∷ []) ∷
+    (SSR, false ∷ false ∷ false ∷ false ∷ false ∷ true ∷ []) ∷ []
+
+each-sense : map (λ row. map (skipsOf (row .0) (with 7 true)) keys) senses ≡ map {B = List Bool} (λ row. row .1) senses
+unfolding skipsOf
+each-sense = refl
+
+-- ---- Shifts of a word by 1 to 15
+
+abbrev amounts : List ℕ
+amounts = 1 ∷ 2 ∷ 3 ∷ 4 ∷ 5 ∷ 6 ∷ 7 ∷ 8 ∷ 9 ∷ 10 ∷ 11 ∷ 12 ∷ 13 ∷ 14 ∷ 15 ∷ []
+
+abbrev shifts : List (ℕ × ℕ × List Flagged)
+shifts =
+    (LGR, 42797, flagged 21398 true ∷ flagged 10699 false ∷ flagged 5349 true ∷ flagged 2674 true ∷ flagged 1337 false ∷ flagged 668 true ∷ flagged 334 false ∷ flagged 167 false ∷ flagged 83 true ∷ flagged 41 true ∷ flagged 20 true ∷ flagged 10 false ∷ flagged 5 false ∷ flagged 2 true ∷ flagged 1 false ∷ []) ∷
+    (LGR, 22739, flagged 11369 true ∷ flagged 5684 true ∷ flagged 2842 false ∷ flagged 1421 false ∷ flagged 710 true ∷ flagged 355 false ∷ flagged 177 true ∷ flagged 88 true ∷ flagged 44 false ∷ flagged 22 false ∷ flagged 11 false ∷ flagged 5 true ∷ flagged 2 true ∷ flagged 1 false ∷ flagged 0 true ∷ []) ∷
+    (ARS, 42797, flagged 54166 true ∷ flagged 59851 false ∷ flagged 62693 true ∷ flagged 64114 true ∷ flagged 64825 false ∷ flagged 65180 true ∷ flagged 65358 false ∷ flagged 65447 false ∷ flagged 65491 true ∷ flagged 65513 true ∷ flagged 65524 true ∷ flagged 65530 false ∷ flagged 65533 false ∷ flagged 65534 true ∷ flagged 65535 false ∷ []) ∷
+    (ARS, 22739, flagged 11369 true ∷ flagged 5684 true ∷ flagged 2842 false ∷ flagged 1421 false ∷ flagged 710 true ∷ flagged 355 false ∷ flagged 177 true ∷ flagged 88 true ∷ flagged 44 false ∷ flagged 22 false ∷ flagged 11 false ∷ flagged 5 true ∷ flagged 2 true ∷ flagged 1 false ∷ flagged 0 true ∷ []) ∷
+    (ARR, 42797, flagged 54166 true ∷ flagged 27083 false ∷ flagged 46309 true ∷ flagged 55922 true ∷ flagged 27961 false ∷ flagged 46748 true ∷ flagged 23374 false ∷ flagged 11687 false ∷ flagged 38611 true ∷ flagged 52073 true ∷ flagged 58804 true ∷ flagged 29402 false ∷ flagged 14701 false ∷ flagged 40118 true ∷ flagged 20059 false ∷ []) ∷
+    (ARR, 22739, flagged 44137 true ∷ flagged 54836 true ∷ flagged 27418 false ∷ flagged 13709 false ∷ flagged 39622 true ∷ flagged 19811 false ∷ flagged 42673 true ∷ flagged 54104 true ∷ flagged 27052 false ∷ flagged 13526 false ∷ flagged 6763 false ∷ flagged 36149 true ∷ flagged 50842 true ∷ flagged 25421 false ∷ flagged 45478 true ∷ []) ∷
+    (LGL, 42797, flagged 20058 true ∷ flagged 40116 false ∷ flagged 14696 true ∷ flagged 29392 false ∷ flagged 58784 false ∷ flagged 52032 true ∷ flagged 38528 true ∷ flagged 11520 true ∷ flagged 23040 false ∷ flagged 46080 false ∷ flagged 26624 true ∷ flagged 53248 false ∷ flagged 40960 true ∷ flagged 16384 true ∷ flagged 32768 false ∷ []) ∷
+    (LGL, 22739, flagged 45478 false ∷ flagged 25420 true ∷ flagged 50840 false ∷ flagged 36144 true ∷ flagged 6752 true ∷ flagged 13504 false ∷ flagged 27008 false ∷ flagged 54016 false ∷ flagged 42496 true ∷ flagged 19456 true ∷ flagged 38912 false ∷ flagged 12288 true ∷ flagged 24576 false ∷ flagged 49152 false ∷ flagged 32768 true ∷ []) ∷
+    (ALS, 42797, flagged 20058 true ∷ flagged 40116 true ∷ flagged 14696 true ∷ flagged 29392 true ∷ flagged 58784 true ∷ flagged 52032 true ∷ flagged 38528 true ∷ flagged 11520 true ∷ flagged 23040 true ∷ flagged 46080 true ∷ flagged 26624 true ∷ flagged 53248 true ∷ flagged 40960 true ∷ flagged 16384 true ∷ flagged 32768 true ∷ []) ∷
+    (ALS, 22739, flagged 45478 true ∷ flagged 25420 true ∷ flagged 50840 true ∷ flagged 36144 true ∷ flagged 6752 true ∷ flagged 13504 true ∷ flagged 27008 true ∷ flagged 54016 true ∷ flagged 42496 true ∷ flagged 19456 true ∷ flagged 38912 true ∷ flagged 12288 true ∷ flagged 24576 true ∷ flagged 49152 true ∷ flagged 32768 true ∷ []) ∷
+    (ALS, 1, flagged 2 false ∷ flagged 4 false ∷ flagged 8 false ∷ flagged 16 false ∷ flagged 32 false ∷ flagged 64 false ∷ flagged 128 false ∷ flagged 256 false ∷ flagged 512 false ∷ flagged 1024 false ∷ flagged 2048 false ∷ flagged 4096 false ∷ flagged 8192 false ∷ flagged 16384 false ∷ flagged 32768 true ∷ []) ∷
+    (ALS, 65535, flagged 65534 false ∷ flagged 65532 false ∷ flagged 65528 false ∷ flagged 65520 false ∷ flagged 65504 false ∷ flagged 65472 false ∷ flagged 65408 false ∷ flagged 65280 false ∷ flagged 65024 false ∷ flagged 64512 false ∷ flagged 63488 false ∷ flagged 61440 false ∷ flagged 57344 false ∷ flagged 49152 false ∷ flagged 32768 false ∷ []) ∷
+    (ALS, 61440, flagged 57344 false ∷ flagged 49152 false ∷ flagged 32768 false ∷ flagged 0 true ∷ flagged 0 true ∷ flagged 0 true ∷ flagged 0 true ∷ flagged 0 true ∷ flagged 0 true ∷ flagged 0 true ∷ flagged 0 true ∷ flagged 0 true ∷ flagged 0 true ∷ flagged 0 true ∷ flagged 0 true ∷ []) ∷
+    (ALR, 42797, flagged 20059 true ∷ flagged 40118 false ∷ flagged 14701 true ∷ flagged 29402 false ∷ flagged 58804 false ∷ flagged 52073 true ∷ flagged 38611 true ∷ flagged 11687 true ∷ flagged 23374 false ∷ flagged 46748 false ∷ flagged 27961 true ∷ flagged 55922 false ∷ flagged 46309 true ∷ flagged 27083 true ∷ flagged 54166 false ∷ []) ∷
+    (ALR, 22739, flagged 45478 false ∷ flagged 25421 true ∷ flagged 50842 false ∷ flagged 36149 true ∷ flagged 6763 true ∷ flagged 13526 false ∷ flagged 27052 false ∷ flagged 54104 false ∷ flagged 42673 true ∷ flagged 19811 true ∷ flagged 39622 false ∷ flagged 13709 true ∷ flagged 27418 false ∷ flagged 54836 false ∷ flagged 44137 true ∷ []) ∷ []
+
+each-shift : map (λ row. map (λ n. shiftOf (row .0) n (row .1) true) amounts) shifts ≡ map {B = List Flagged} (λ row. row .2) shifts
+unfolding shiftOf signChanges
+each-shift = refl
