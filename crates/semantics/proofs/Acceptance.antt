@@ -8,3 +8,5 @@ pub mod Scopes
 pub mod Locals
 pub mod Declarations
 pub mod Accepted
+pub mod Pools
+pub mod Sectors

@@ -4,3 +4,4 @@ pub mod Theorem
 pub mod Loading
 pub mod Recipes
 pub mod Passes
+pub mod Laws

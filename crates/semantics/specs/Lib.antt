@@ -7,3 +7,4 @@ pub mod Examples
 pub mod WellFormed
 pub mod Laid
 pub mod Known
+pub mod EmissionLaws

@@ -1,5 +1,6 @@
 // The semantics of the language, and demand 3 over the definitions. The functions carry the theorems as their contracts.
 ghost use Rattle.semantics.specs.Agreement.{Demand3, Loadable};
+ghost use Rattle.semantics.specs.EmissionLaws.{EmissionLaws};
 
 pub fn demand_three()
     ensures { λ r. ⌜ Demand3 ⌝ }
@@ -8,4 +9,9 @@ pub fn demand_three()
 // The theorem is about something: a machine can be loaded with every start.
 pub fn start_exists()
     ensures { λ r. ⌜ Loadable ⌝ }
+{}
+
+// What holds of every accepted program's pools, map and image.
+pub fn emission_laws()
+    ensures { λ r. ⌜ EmissionLaws ⌝ }
 {}

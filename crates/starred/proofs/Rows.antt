@@ -20,6 +20,7 @@ use Rattle.machine.specs.Step.{memoryDef, genericDef, stepDef}
 use Rattle.machine.specs.Clock.{dueOf}
 use Rattle.machine.specs.Run.{ran, runFrom, runDef}
 use Rattle.machine.proofs.Turns.{run-spent}
+use Rattle.emission.specs.Computed.{computed}
 use Rattle.starred.specs.Samples.{absolute, greater, sums}
 use Rattle.starred.specs.Starred.{starred, Starred}
 
@@ -36,5 +37,5 @@ nothing-spent q s b l p h =
     rw (eq-eqb _ _ l, le-ltb 16383 (s .machine .p) (omega arith), le-ltb 1000000 (q .budget) (omega arith)) (run-spent (q .budget) s h b)
 
 pub starred-cases : Starred
-unfolding Starred starred sums absolute greater runDef runFrom stepDef decodeDef shiftOf genericOf findWord generics memoryOf followOf memoryDef genericDef operateOf unaryOf skipsOf sumOf compareOf shiftWord
-starred-cases = (refl, (refl, (refl, (refl, (refl, (refl, (refl, (one-ahead, (nothing-spent, tt)))))))))
+unfolding Starred starred computed sums absolute greater runDef runFrom stepDef decodeDef shiftOf genericOf findWord generics memoryOf followOf memoryDef genericDef operateOf unaryOf skipsOf sumOf compareOf shiftWord
+starred-cases = (refl, (refl, (refl, (refl, (refl, (refl, (refl, (refl, (refl, (refl, (one-ahead, (nothing-spent, tt))))))))))))

@@ -4,6 +4,7 @@ use mathlib.Core.Path.{_≡_}
 use mathlib.Core.Bool.{true, false}
 use mathlib.Core.List.{List, [], _∷_}
 use lib.ListN.{length, set}
+use Rattle.source.specs.Bytes.{bytes}
 use Rattle.word.specs.Arithmetic.{compareOf}
 use Rattle.word.specs.Shift.{LGL}
 use Rattle.instruction.specs.declared.Instruction.the-variants.{Shift}
@@ -15,13 +16,22 @@ use Rattle.machine.specs.declared.Outcome.the-variants.{Halted, Spent}
 use Rattle.machine.specs.State.{State, state}
 use Rattle.machine.specs.Clock.{dueOf}
 use Rattle.machine.specs.Run.{ran, runDef}
+use Rattle.emission.specs.Compile.{Result, compileDef}
+use Rattle.emission.specs.Listing.{listingDef}
 use Rattle.starred.specs.Case.{Case, case, Hold}
-use Rattle.starred.specs.Samples.{machineAt, run, absolute, greater, sums}
+use Rattle.starred.specs.Samples.{machineAt, run, firstRecipe, absolute, greater, sums}
 
 unfoldable pub starred : List Case
 starred =
-    case "a run of the first recipe's words makes A 4975 in 5 steps"
+    case "the first recipe makes the listing program print the lines"
+    (listingDef (compileDef firstRecipe)
+    ≡ bytes "result=0\nat=0\nentry=001000\nwords=8\nglobals=1\ng=000200:000000\nw=001000:005005\nw=001001:015006\nw=001002:015007\nw=001003:010200\nw=001004:000000\nw=001005:004134\nw=001006:003523\nw=001007:001700\n")
+    ∷ case "a run of it makes A 4975 in 5 steps"
     (run (machineAt 0 0o1000 false) sums ≡ ran 5 Halted (state (machineAt 4975 0o1005 true) (set sums 0o200 4975)))
+    ∷ case ".BEGIN .END is one HLT"
+    (listingDef (compileDef (bytes ".BEGIN .END")) ≡ bytes "result=0\nat=0\nentry=001000\nwords=1\nglobals=0\nw=001000:000000\n")
+    ∷ case "empty text: 6 at 0"
+    (compileDef (bytes "") ≡ Result.failed 6 0)
     ∷ case ".ABS of -32768 is -32768"
     (run (machineAt 32768 0o1000 false) absolute ≡ ran 3 Halted (state (machineAt 32768 0o1003 true) absolute))
     ∷ case "32767 > -32768 holds: CAS skips 0"

@@ -15,3 +15,4 @@ pub mod Program
 pub mod Computed
 pub mod Examples
 pub mod Failures
+pub mod EmissionExamples

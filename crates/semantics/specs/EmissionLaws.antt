@@ -1,0 +1,54 @@
+-- The laws of emission: pools, acceptance, the memory map and the image. Assumes nothing.
+use Prim.Native.Nat.{ℕ, _<_}
+use mathlib.Core.Path.{_≡_}
+use mathlib.Core.Bool.{Bool}
+use mathlib.Core.List.{List, [], _∷_, _++_, List·Memᴰ}
+use lib.ListN.{length, getD}
+use Rattle.syntax.specs.Tree.{CellId, Name, Item, Stmts, Declaration, Program}
+use Rattle.syntax.specs.Emission.{Sym, procedureWords, mainWords}
+use Rattle.syntax.specs.Pool.{literalsOf, indexOf, addedAll}
+use Rattle.syntax.specs.State.{linkOf, stateAfter}
+use Rattle.emission.specs.Map.{planOf}
+use Rattle.emission.specs.Compile.{Compiled, Result, compiled, compileDef}
+use Rattle.semantics.specs.Variables.{variablesOf}
+use Rattle.semantics.specs.Agreement.{Home}
+use Rattle.semantics.specs.WellFormed.{WellFormed}
+use Rattle.semantics.specs.Laid.{Sound, LaidProgram}
+use Rattle.semantics.specs.Known.{knownOf, mapAt}
+
+-- a value is among some: of one that is not, `indexOf` is their count
+abbrev pub Among : List ℕ → ℕ → Type 0
+Among vs v = indexOf vs v < length vs
+
+-- a list and then others
+pub record Extends (pool longer : List ℕ) : Type 0 where
+  pub new : List ℕ
+  pub is : longer ≡ pool ++ new
+
+pub record EmissionLaws : Type 0 where
+  -- "equal values sharing one word": no two words of a pool are equal
+  pub distinct : (vs : List ℕ) (k : ℕ) → k < length (addedAll [] vs) → indexOf (addedAll [] vs) (getD (addedAll [] vs) k 0) ≡ k
+  -- the literals of words are in the pool after them, each at its index; and a pool has nothing else
+  pub pooled : (pool : List ℕ) (ws : List Sym) (v : ℕ) → Among (literalsOf ws) v
+      → let after = addedAll pool (literalsOf ws) in Among after v × (getD after (indexOf after v) 0 ≡ v)
+  pub only : (vs : List ℕ) (v : ℕ) → Among (addedAll [] vs) v → Among vs v
+  -- a literal of a procedure's body is in the pool of the sector that is filled then, and one of the main body in the last pool
+  pub in-sector : (p : Program) (before after : List Declaration) (name : Name) (accumulator : Bool) (locals : List (Name × Item)) (body : Stmts) (v : ℕ)
+      → p .declarations ≡ before ++ (Declaration.procedure name accumulator locals body ∷ after)
+      → let st = stateAfter before in Among (literalsOf (procedureWords body (linkOf st name locals))) v → Among (planOf p (length (st .ends)) .pool) v
+  pub in-last-sector : (p : Program) (v : ℕ)
+      → let st = stateAfter (p .declarations) in Among (literalsOf (mainWords (p .main) (st .code))) v → Among (planOf p (length (st .ends)) .pool) v
+  -- "in order of first use": words laid later only add at the end, and what is pooled keeps its place
+  pub appended : (pool vs : List ℕ) → Extends pool (addedAll pool vs)
+  pub stays : (pool vs : List ℕ) (v : ℕ) → Among pool v → indexOf (addedAll pool vs) v ≡ indexOf pool v
+  -- every accepted program is well-formed, and nothing but its tree decides what it compiles to
+  pub well-formed : (source : List ℕ) (c : Compiled) → compileDef source ≡ Result.accepted c → WellFormed (c .program)
+  pub by-tree : (source : List ℕ) (c : Compiled) → compileDef source ≡ Result.accepted c → c ≡ compiled (c .program)
+  -- the image has 16,384 words
+  pub image-size : (source : List ℕ) (c : Compiled) → compileDef source ≡ Result.accepted c → length (c .image) ≡ 16384
+  -- each variable that is declared, X too, has one home; X's is word 0; no link stands twice
+  pub homes : (source : List ℕ) (c : Compiled) → compileDef source ≡ Result.accepted c → (i : CellId) → List·Memᴰ i (variablesOf (c .program)) → Home (c .program) i
+  pub sound : (source : List ℕ) (c : Compiled) → compileDef source ≡ Result.accepted c → Sound (mapAt (c .program))
+  -- code, array words and procedure words are fixed words of the map, in one sector with what they refer to: every body is laid as the relation says
+  pub laid : (source : List ℕ) (c : Compiled) → compileDef source ≡ Result.accepted c
+      → LaidProgram (mapAt (c .program)) (knownOf (c .program .declarations)) (c .program .main) (c .entry)
