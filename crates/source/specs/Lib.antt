@@ -2,5 +2,6 @@
 pub mod Bytes
 pub mod Kinds
 pub mod PointWords
+pub mod Classes
 pub mod Tokens
 pub mod Examples

@@ -6,13 +6,8 @@ use lib.Dec.{leb, eqb}
 use Rattle.source.specs.Bytes.{whether, bytes, isLetter, isDigit, isOctalDigit, isLetterOrDigit, isBlank, span, startsWith, find, given}
 use Rattle.source.specs.Kinds
 use Rattle.source.specs.PointWords.{wordLength, wordKind}
-
--- its kind; the 16 bits of a constant in figures; the offsets of its first byte and after its last
-pub record Token : Type 0 where
-  pub kind : ℕ
-  pub value : ℕ
-  pub at : ℕ
-  pub next : ℕ
+-- the code's struct: its kind; the 16 bits of a constant in figures; the offsets of its first byte and after its last
+use Rattle.source.specs.declared.Token.{Token}
 
 abbrev pub token : ℕ → ℕ → ℕ → ℕ → Token
 token kind value at width = record { kind = kind; value = value; at = at; next = at + width }

@@ -5,7 +5,8 @@ use mathlib.Core.List.{List}
 use mathlib.Core.Option.{Option, none}
 use Rattle.source.specs.Bytes.{whether, given}
 use Rattle.source.specs.Kinds
-use Rattle.source.specs.Tokens.{Token, tokenAt, operatorAt, nameOf}
+use Rattle.source.specs.declared.Token.{Token}
+use Rattle.source.specs.Tokens.{tokenAt, operatorAt, nameOf}
 use Rattle.syntax.specs.Tree.{Array, Operand, Subscript, Cell}
 use Rattle.syntax.specs.Symbols.{Symbol, Names, symbolOf, asConstant, asOperand, asArray}
 use Rattle.syntax.specs.Parse.{Got, andThen, failAt, is, expect}

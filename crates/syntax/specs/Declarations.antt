@@ -7,7 +7,8 @@ use lib.ListN.{length}
 use lib.Dec.{leb, ltb}
 use Rattle.source.specs.Bytes.{whether, sameBytes, find, given}
 use Rattle.source.specs.Kinds
-use Rattle.source.specs.Tokens.{Token, tokenAt, nameOf}
+use Rattle.source.specs.declared.Token.{Token}
+use Rattle.source.specs.Tokens.{tokenAt, nameOf}
 use Rattle.syntax.specs.Tree.{Name, Item, Declaration}
 use Rattle.syntax.specs.Symbols.{Names, Scope, isX, sameLevel, declareItem, localScope}
 use Rattle.syntax.specs.State.{stateAfter}

@@ -4,7 +4,8 @@ use mathlib.Core.List.{List, []}
 use mathlib.Core.Option.{Option, none, some}
 use Rattle.source.specs.Bytes.{whether, between, given}
 use Rattle.source.specs.Kinds
-use Rattle.source.specs.Tokens.{Token, tokenAt, operatorAt}
+use Rattle.source.specs.declared.Token.{Token}
+use Rattle.source.specs.Tokens.{tokenAt, operatorAt}
 use Rattle.syntax.specs.Tree.{Unary, Operation, Expr, Term, Cond}
 use Rattle.syntax.specs.Symbols.{Names, asFunction}
 use Rattle.syntax.specs.Parse.{Got, andThen, failAt, is, expect, snoc, repeat}

@@ -6,7 +6,8 @@ use mathlib.Core.Option.{Option, none, some}
 use lib.ListN.{length}
 use lib.Dec.{eqb}
 use Rattle.source.specs.Bytes.{whether, given}
-use Rattle.source.specs.Tokens.{Token, tokenAt, failureAt}
+use Rattle.source.specs.declared.Token.{Token}
+use Rattle.source.specs.Tokens.{tokenAt, failureAt}
 
 -- a part of the source as a tree, with the offset after it; or a failure's number and offset
 pub data Got (A : Type 0) : Type 0 where

@@ -4,7 +4,8 @@ use mathlib.Core.Bool.{Bool, _||_}
 use mathlib.Core.List.{List, [], _∷_}
 use Rattle.source.specs.Bytes.{whether, given}
 use Rattle.source.specs.Kinds
-use Rattle.source.specs.Tokens.{Token, tokenAt}
+use Rattle.source.specs.declared.Token.{Token}
+use Rattle.source.specs.Tokens.{tokenAt}
 use Rattle.syntax.specs.Tree.{Id, Array, Expr, Target, Stmt, Stmts}
 use Rattle.syntax.specs.Symbols.{Names, asInteger, asArray, asProcedure}
 use Rattle.syntax.specs.Parse.{Got, andThen, failAt, is, expect, parted}

@@ -4,7 +4,7 @@ use mathlib.Core.List.{List, [], _∷_}
 use lib.Dec.{eqb}
 use Rattle.source.specs.Bytes.{find, given}
 use Rattle.source.specs.Kinds
-use Rattle.source.specs.Tokens.{Token}
+use Rattle.source.specs.declared.Token.{Token}
 use Rattle.syntax.specs.Tree.{Unary, Operator, Shift, Relation, Test, Bare}
 
 abbrev pub unaries : List (ℕ × Unary)

@@ -9,7 +9,8 @@ use lib.ListN.{length, length-append}
 use borrow.Author.Tests.{leb-true, ltb-true}
 use Rattle.source.specs.Bytes.{whether}
 use Rattle.source.specs.Kinds
-use Rattle.source.specs.Tokens.{Token, tokenAt, nameOf}
+use Rattle.source.specs.declared.Token.{Token}
+use Rattle.source.specs.Tokens.{tokenAt, nameOf}
 use Rattle.syntax.specs.Tree.{Name, Item, Declaration}
 use Rattle.syntax.specs.Symbols.{Level, Names, Scope, declareItem, localScope}
 use Rattle.syntax.specs.State.{stateAfter, localWords}

@@ -8,7 +8,8 @@ use borrow.Author.Tests.{leb-true}
 use native.Mathlib.Omega.{arith}
 use Rattle.source.specs.Bytes.{between}
 use Rattle.source.specs.Kinds
-use Rattle.source.specs.Tokens.{Token, tokenAt, operatorAt}
+use Rattle.source.specs.declared.Token.{Token}
+use Rattle.source.specs.Tokens.{tokenAt, operatorAt}
 use Rattle.syntax.specs.Tree.{Operation, Expr, Term}
 use Rattle.syntax.specs.Symbols.{Names, asFunction, asArray, asConstant, asOperand}
 use Rattle.syntax.specs.Parse.{Got, is, snoc}

@@ -5,7 +5,8 @@ use mathlib.Core.List.{List}
 use mathlib.Core.Option.{Option}
 use Rattle.source.specs.Bytes.{sameBytes}
 use Rattle.source.specs.Kinds
-use Rattle.source.specs.Tokens.{Token, nameOf}
+use Rattle.source.specs.declared.Token.{Token}
+use Rattle.source.specs.Tokens.{nameOf}
 use Rattle.syntax.specs.Tree.{Name}
 use Rattle.syntax.specs.Symbols.{Symbol, Entry, Names, isX, symbolOf, asConstant, asInteger, asOperand, asArray, asProcedure, asFunction}
 use Rattle.syntax.specs.Parse.{is}

@@ -8,7 +8,8 @@ use lib.Dec.{eqb}
 use lib.ListN.{length}
 use borrow.Author.Tests.{eqb-true}
 use Rattle.source.specs.Bytes.{whether, find, given}
-use Rattle.source.specs.Tokens.{Token, tokenAt}
+use Rattle.source.specs.declared.Token.{Token}
+use Rattle.source.specs.Tokens.{tokenAt}
 use Rattle.syntax.specs.Parse.{Got, andThen, failAt, within, is, expect, repeatBy, repeat, parted}
 use Rattle.syntax.specs.Parse.Got.{got, failed}
 use Rattle.syntax.specs.Words.{asOneOf}

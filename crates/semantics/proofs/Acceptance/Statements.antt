@@ -2,7 +2,8 @@
 use Prim.Native.Nat.{ℕ, zero, suc}
 use mathlib.Core.List.{List}
 use Rattle.source.specs.Kinds
-use Rattle.source.specs.Tokens.{Token, tokenAt}
+use Rattle.source.specs.declared.Token.{Token}
+use Rattle.source.specs.Tokens.{tokenAt}
 use Rattle.syntax.specs.Tree.{Id, Array, Expr, Target, Stmt}
 use Rattle.syntax.specs.Symbols.{Names, asInteger, asArray, asProcedure}
 use Rattle.syntax.specs.Parse.{Got, is}

@@ -5,7 +5,8 @@ use native.Mathlib.Omega.{arith}
 use lib.Dec.{leb, eqb}
 use borrow.Author.Tests.{leb-true}
 use Rattle.source.specs.Bytes.{isLetter, isDigit, isOctalDigit, span, startsWith}
-use Rattle.source.specs.Tokens.{Token, constantToken, decimalToken, negativeToken, octalToken, wordToken, signs, signToken, tokenOf, afterBlanks, tokenAt}
+use Rattle.source.specs.declared.Token.{Token}
+use Rattle.source.specs.Tokens.{constantToken, decimalToken, negativeToken, octalToken, wordToken, signs, signToken, tokenOf, afterBlanks, tokenAt}
 use Rattle.semantics.proofs.Acceptance.Parts.{choice, found, if-given, any-rows}
 
 abbrev pub IsWord : Token → Type 0

@@ -1,0 +1,25 @@
+-- `sign::greater` meets its contract. Assumes nothing.
+use mathlib.Core.Path.{sym}
+use borrow.Author.Tests.{ne-eqb}
+use Rattle.source.specs.Bytes.{find, startsWith}
+use Rattle.source.specs.Tokens.{signToken}
+use borrow.Author.Needs.{needs}
+use Rattle.source.proofs.sign.greater.Statement.{statement}
+use Rattle.source.proofs.sign.greater.Tie as tie
+
+sign-requires : tie.Need-sign-requires
+sign-requires c κs = search needs
+
+returns : tie.Need-returns
+unfolding signToken find startsWith
+returns c = rw (c .before .if1 .taken) (c .sign .ensures)
+
+sign-requires-2 : tie.Need-sign-requires-2
+sign-requires-2 c κs = search needs
+
+returns-2 : tie.Need-returns-2
+unfolding signToken find startsWith
+returns-2 c = simp (ne-eqb _ _ (λ q. c .before .if1 .left (sym q))) (c .sign2 .ensures)
+
+pub greater-spec : {M : Type 1} → statement M
+greater-spec = tie.close (tie.spec sign-requires returns sign-requires-2 returns-2)

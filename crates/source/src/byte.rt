@@ -1,0 +1,30 @@
+// Bytes of the source and of names.
+use crate::Token;
+ghost use mathlib.Core.Path.{_≡_};
+ghost use lib.ListN.{getD};
+ghost use Rattle.source.specs.Tokens.{nameOf};
+
+// The byte at an offset, or 0 past the end.
+pub fn byte_at(source: &[u8], at: usize) -> u8
+    ensures { λ r. ⌜ r ≡ getD (now (source .entry)) at 0 ⌝ }
+{
+    if at < source.len() { source[at] } else { 0 }
+}
+
+// A byte of a name, of which the first six count; 0 past its end.
+pub fn name_byte(source: &[u8], name: Token, i: usize) -> u8
+    ensures { λ r. ⌜ r ≡ getD (nameOf (now (source .entry)) name) i 0 ⌝ }
+{
+    let at = name.at;
+    let next = name.next;
+    if 6 <= i {
+        return 0;
+    }
+    if next <= at {
+        return 0;
+    }
+    if next - at <= i {
+        return 0;
+    }
+    byte_at(source, at + i)
+}

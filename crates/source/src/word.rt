@@ -1,0 +1,162 @@
+// Point-words.
+use crate::Token;
+use crate::kind;
+use crate::run;
+use crate::run::Class;
+ghost use mathlib.Core.Path.{_≡_};
+ghost use mathlib.Core.List.{[]};
+ghost use Prim.Native.Nat.{_+_, _-_, _≤_, _<_};
+ghost use lib.ListN.{length, getD, take, drop};
+ghost use Rattle.source.specs.Bytes.{isDigit, span, sameBytes};
+ghost use Rattle.source.specs.PointWords.{pointWords, wordLength, wordKind};
+ghost use Rattle.source.specs.Tokens.{wordToken};
+
+const COUNT: usize = 52;
+
+// Where each point-word starts in the letters of all, and where the last ends.
+const STARTS: [usize; 53] = [
+    0,
+    5,
+    8,
+    15,
+    23,
+    35,
+    40,
+    50,
+    59,
+    70,
+    72,
+    76,
+    80,
+    84,
+    89,
+    91,
+    94,
+    98,
+    101,
+    104,
+    108,
+    111,
+    114,
+    117,
+    120,
+    123,
+    126,
+    129,
+    135,
+    140,
+    144,
+    151,
+    157,
+    160,
+    163,
+    166,
+    169,
+    172,
+    175,
+    178,
+    185,
+    189,
+    194,
+    197,
+    201,
+    205,
+    209,
+    215,
+    221,
+    227,
+    233,
+    239,
+    244,
+];
+
+fn same(a: &[u8], b: &[u8]) -> bool
+    ensures { λ r. ⌜ r ≡ sameBytes (now (a .entry)) (now (b .entry)) ⌝ }
+{
+    if a.len() != b.len() {
+        return false;
+    }
+    let mut i = 0;
+    while i < a.len() {
+        if a[i] != b[i] {
+            return false;
+        }
+        i += 1;
+    }
+    true
+}
+
+// Its own function, because a part can be taken of a parameter and not of a byte string.
+fn same_part(word: &[u8], letters: &[u8], from: usize, to: usize) -> bool
+    requires { ⌜ (from ≤ to) × (to ≤ length (now letters)) ⌝ }
+    ensures { λ r. ⌜ r ≡ sameBytes (now (word .entry)) (take (to - from) (drop from (now (letters .entry)))) ⌝ }
+{
+    same(word, &letters[from..to])
+}
+
+// Whether a word is the point-word of a number, in the order of the kinds.
+fn is_word(word: &[u8], k: usize) -> bool
+    requires { ⌜ k < 52 ⌝ }
+    ensures { λ r. ⌜ r ≡ sameBytes (now (word .entry)) (getD pointWords k ([], 0) .0) ⌝ }
+{
+    let letters =
+        b"BEGINENDINTEGERCONSTANTCOMPCONSTANTARRAYNEXTSECTORPROCEDUREACCUMULATORIFTHENELSEWHENWHILEDOFORZEROANDNEVADDCINCNEGSSPSSMCHSCSANOTICLEFTCLEFTSWOPICRIGHTCRIGHTABSLGRARSARRLGLALSALRNONZEROPLUSMINUSODDEVENCSETNOTCSENSE1SENSE2SENSE3SENSE4ANYKEYNOKEY";
+    let from = STARTS[k];
+    let to = STARTS[k + 1];
+    same_part(word, letters, from, to)
+}
+
+// A word that is not in the table carries a failure, as an unknown byte does.
+fn word_kind(word: &[u8]) -> u16
+    ensures { λ r. ⌜ r ≡ wordKind (now (word .entry)) ⌝ }
+{
+    let mut k: usize = 0;
+    while k < COUNT {
+        if is_word(word, k) {
+            return kind::BEGIN + k as u16;
+        }
+        k += 1;
+    }
+    kind::UNKNOWN
+}
+
+// After one digit, if there is one.
+fn digit_end(source: &[u8], at: usize) -> usize
+    requires { ⌜ at ≤ length (now source) ⌝ }
+    ensures { λ r. ⌜ (r ≡ at + span isDigit (take 1 (drop at (now (source .entry))))) × (r ≤ length (now (source .entry))) ⌝ }
+{
+    if at < source.len() {
+        if run::is_in(Class::Digit, source[at]) {
+            return at + 1;
+        }
+    }
+    at
+}
+
+// Letters, and after `SENSE` one digit.
+fn word_end(source: &[u8], from: usize) -> usize
+    requires { ⌜ from ≤ length (now source) ⌝ }
+    ensures { λ r. ⌜ (r ≡ from + wordLength (drop from (now (source .entry)))) × (r ≤ length (now (source .entry))) ⌝ }
+{
+    let end = run::run_end(source, from, Class::Letter);
+    if same(&source[from..end], b"SENSE") {
+        return digit_end(source, end);
+    }
+    end
+}
+
+// From its point on.
+pub fn word_at(source: &[u8], at: usize) -> Token
+    requires { ⌜ at < length (now source) ⌝ }
+    ensures { λ r. ⌜ r ≡ wordToken (drop (at + 1) (now (source .entry))) at ⌝ }
+{
+    let from = at + 1;
+    let next = word_end(source, from);
+    let kind = word_kind(&source[from..next]);
+    Token {
+        kind,
+        value: 0,
+        at,
+        next,
+    }
+}
