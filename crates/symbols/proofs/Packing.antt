@@ -1,0 +1,186 @@
+-- Packing loses nothing: three words give back their name, a name its three words, and names pack alike exactly if they are the same. Assumes nothing.
+use Prim.Native.Nat.{ℕ, zero, suc, _+_, _*_, _/_, _%_, _≤_, _<_}
+use mathlib.Core.Path.{_≡_, refl, sym, ap, ap₂, _∙_}
+use mathlib.Core.Bool.{Bool, true, false, _&&_, _||_}
+use mathlib.Core.List.{List, [], _∷_}
+use native.Mathlib.Omega.{arith}
+use lib.ListN.{length, getD}
+use lib.Dec.{eqb, leb}
+use borrow.Author.Tests.{eqb-true, eq-eqb, ne-eqb, leb-true}
+use Rattle.source.specs.Bytes.{whether, isLetterOrDigit, sameBytes}
+use Rattle.syntax.specs.Tree.{Name}
+use Rattle.syntax.specs.Symbols.{isX}
+use Rattle.symbols.specs.declared.Packed.{Packed}
+use Rattle.symbols.specs.Packing.{allNameBytes, packOf, samePacked, beforeTrimmed, trimmed, sixBytes, unpack}
+
+-- ---- Three words give back themselves
+
+-- trimming changes no byte, as one past the end is 0
+trimmed-at : (bs : List ℕ) (i : ℕ) → getD (trimmed bs) i 0 ≡ getD bs i 0
+unfolding trimmed beforeTrimmed
+trimmed-at [] i = refl
+trimmed-at (b ∷ bs) i = go (trimmed bs) (trimmed-at bs) i
+  where
+    last : (t : Bool) → eqb b 0 ≡ t → ((i : ℕ) → getD {A = ℕ} [] i 0 ≡ getD bs i 0) → (i : ℕ) → getD (whether t (λ _. []) (λ _. b ∷ [])) i 0 ≡ getD (b ∷ bs) i 0
+    last true e h zero = sym (eqb-true b 0 e)
+    last true e h (suc i) = h i
+    last false e h zero = refl
+    last false e h (suc i) = h i
+
+    go : (t : List ℕ) → ((i : ℕ) → getD t i 0 ≡ getD bs i 0) → (i : ℕ) → getD (beforeTrimmed b t) i 0 ≡ getD (b ∷ bs) i 0
+    go [] h i = last (eqb b 0) refl h i
+    go (c ∷ cs) h zero = refl
+    go (c ∷ cs) h (suc i) = h i
+
+whole : (w : ℕ) → 256 * (w / 256) + w % 256 ≡ w
+whole w = omega arith
+
+pub pack-unpack : (p : Packed) → packOf (unpack p) ≡ p
+unfolding packOf unpack
+pack-unpack p =
+    rw (
+      trimmed-at (sixBytes p) 0,
+      trimmed-at (sixBytes p) 1,
+      trimmed-at (sixBytes p) 2,
+      trimmed-at (sixBytes p) 3,
+      trimmed-at (sixBytes p) 4,
+      trimmed-at (sixBytes p) 5,
+      whole (p .one),
+      whole (p .two),
+      whole (p .three),
+    )
+
+-- ---- A name gives back itself
+
+padded : ℕ → Name → List ℕ
+padded zero bs = []
+padded (suc n) [] = 0 ∷ padded n []
+padded (suc n) (b ∷ bs) = b ∷ padded n bs
+
+-- a name's byte is no zero, and fits
+name-byte : (b : ℕ) → isLetterOrDigit b ≡ true → (0 < b) × (b < 256)
+name-byte b h = go (leb 65 b) (leb b 90) (leb 48 b) (leb b 57) refl refl refl refl h
+  where
+    go : (p q r s : Bool) → leb 65 b ≡ p → leb b 90 ≡ q → leb 48 b ≡ r → leb b 57 ≡ s → (p && q) || (r && s) ≡ true → (0 < b) × (b < 256)
+    go true true r s e f g h k = let l = leb-true 65 b e in let m = leb-true b 90 f in (omega arith, omega arith)
+    go true false true true e f g h k = let l = leb-true 48 b g in let m = leb-true b 57 h in (omega arith, omega arith)
+    go false q true true e f g h k = let l = leb-true 48 b g in let m = leb-true b 57 h in (omega arith, omega arith)
+    go true false true false e f g h k = let z : _≡_ {A = ℕ} 0 1 = cc in absurd (omega arith)
+    go true false false s e f g h k = let z : _≡_ {A = ℕ} 0 1 = cc in absurd (omega arith)
+    go false q true false e f g h k = let z : _≡_ {A = ℕ} 0 1 = cc in absurd (omega arith)
+    go false q false s e f g h k = let z : _≡_ {A = ℕ} 0 1 = cc in absurd (omega arith)
+
+both : (t rest : Bool) → whether t (λ _. rest) (λ _. false) ≡ true → (t ≡ true) × (rest ≡ true)
+both true rest h = (refl, h)
+both false rest h = let z : _≡_ {A = ℕ} 0 1 = cc in absurd (omega arith)
+
+first-byte : (b : ℕ) (bs : Name) → allNameBytes (b ∷ bs) ≡ true → (isLetterOrDigit b ≡ true) × (allNameBytes bs ≡ true)
+unfolding allNameBytes
+first-byte b bs h = both (isLetterOrDigit b) (allNameBytes bs) h
+
+byte-fits : (name : Name) → allNameBytes name ≡ true → (i : ℕ) → getD name i 0 < 256
+byte-fits [] h i = omega arith
+byte-fits (b ∷ bs) h zero = name-byte b (first-byte b bs h .0) .1
+byte-fits (b ∷ bs) h (suc i) = byte-fits bs (first-byte b bs h .1) i
+
+untrimmed : (b : ℕ) (bs : Name) → 0 < b → beforeTrimmed b bs ≡ b ∷ bs
+unfolding beforeTrimmed
+untrimmed b [] h = rw (ne-eqb b 0 (λ e. omega arith))
+untrimmed b (c ∷ cs) h = refl
+
+trimmed-padded : (n : ℕ) (name : Name) → length name ≤ n → allNameBytes name ≡ true → trimmed (padded n name) ≡ name
+unfolding trimmed padded beforeTrimmed
+trimmed-padded zero [] l h = refl
+trimmed-padded zero (b ∷ bs) l h = absurd (omega arith)
+trimmed-padded (suc n) [] l h = ap (beforeTrimmed 0) (trimmed-padded n [] (omega arith) h)
+trimmed-padded (suc n) (b ∷ bs) l h =
+    let f = first-byte b bs h in
+    ap (beforeTrimmed b) (trimmed-padded n bs (omega arith) (f .1)) ∙ untrimmed b bs (name-byte b (f .0) .0)
+
+abbrev firstSix : Name → List ℕ
+firstSix name = getD name 0 0 ∷ getD name 1 0 ∷ getD name 2 0 ∷ getD name 3 0 ∷ getD name 4 0 ∷ getD name 5 0 ∷ []
+
+six-padded : (name : Name) → firstSix name ≡ padded 6 name
+unfolding padded
+six-padded [] = refl
+six-padded (a ∷ []) = refl
+six-padded (a ∷ b ∷ []) = refl
+six-padded (a ∷ b ∷ c ∷ []) = refl
+six-padded (a ∷ b ∷ c ∷ d ∷ []) = refl
+six-padded (a ∷ b ∷ c ∷ d ∷ e ∷ []) = refl
+six-padded (a ∷ b ∷ c ∷ d ∷ e ∷ f ∷ rest) = refl
+
+upper : (a b : ℕ) → b < 256 → (256 * a + b) / 256 ≡ a
+upper a b h = omega arith
+
+lower : (a b : ℕ) → b < 256 → (256 * a + b) % 256 ≡ b
+lower a b h = omega arith
+
+six-packed : (name : Name) → allNameBytes name ≡ true → sixBytes (packOf name) ≡ firstSix name
+unfolding packOf
+six-packed name h =
+    let k = byte-fits name h in
+    rw (
+      upper (getD name 0 0) (getD name 1 0) (k 1),
+      lower (getD name 0 0) (getD name 1 0) (k 1),
+      upper (getD name 2 0) (getD name 3 0) (k 3),
+      lower (getD name 2 0) (getD name 3 0) (k 3),
+      upper (getD name 4 0) (getD name 5 0) (k 5),
+      lower (getD name 4 0) (getD name 5 0) (k 5),
+    )
+
+pub unpack-pack : (name : Name) → length name ≤ 6 → allNameBytes name ≡ true → unpack (packOf name) ≡ name
+unfolding unpack
+unpack-pack name l h = ap trimmed (six-packed name h ∙ six-padded name) ∙ trimmed-padded 6 name l h
+
+-- ---- Names pack alike exactly if they are the same
+
+same-self : (bs : List ℕ) → sameBytes bs bs ≡ true
+unfolding sameBytes
+same-self [] = refl
+same-self (b ∷ bs) = rw (eq-eqb b b refl) (same-self bs)
+
+same-is : (bs cs : List ℕ) → sameBytes bs cs ≡ true → bs ≡ cs
+unfolding sameBytes
+same-is [] [] h = refl
+same-is [] (c ∷ cs) h = let z : _≡_ {A = ℕ} 0 1 = cc in absurd (omega arith)
+same-is (b ∷ bs) [] h = let z : _≡_ {A = ℕ} 0 1 = cc in absurd (omega arith)
+same-is (b ∷ bs) (c ∷ cs) h =
+    let f = both (eqb b c) (sameBytes bs cs) h in
+    ap₂ (λ x y. x ∷ y) (eqb-true b c (f .0)) (same-is bs cs (f .1))
+
+packed-self : (p : Packed) → samePacked p p ≡ true
+unfolding samePacked
+packed-self p = rw (eq-eqb (p .one) (p .one) refl, eq-eqb (p .two) (p .two) refl) (eq-eqb (p .three) (p .three) refl)
+
+words-same : (a b c d e f : ℕ) → a ≡ d → b ≡ e → c ≡ f → _≡_ {A = Packed} (record { one = a; two = b; three = c }) (record { one = d; two = e; three = f })
+words-same a b c d e f x y z = rw (x, y, z)
+
+packed-is : (p q : Packed) → samePacked p q ≡ true → p ≡ q
+unfolding samePacked
+packed-is p q h =
+    let f = both (eqb (p .one) (q .one)) (whether (eqb (p .two) (q .two)) (λ _. eqb (p .three) (q .three)) (λ _. false)) h in
+    let g = both (eqb (p .two) (q .two)) (eqb (p .three) (q .three)) (f .1) in
+    words-same (p .one) (p .two) (p .three) (q .one) (q .two) (q .three) (eqb-true (p .one) (q .one) (f .0)) (eqb-true (p .two) (q .two) (g .0)) (eqb-true (p .three) (q .three) (g .1))
+
+-- two tests that hold together are one
+same-test : (a b : Bool) → (a ≡ true → b ≡ true) → (b ≡ true → a ≡ true) → a ≡ b
+same-test true b f g = sym (f refl)
+same-test false true f g = g refl
+same-test false false f g = refl
+
+-- THE LAW of the inner loop: comparing words is comparing names
+pub same-unpacked : (p q : Packed) → samePacked p q ≡ sameBytes (unpack p) (unpack q)
+same-unpacked p q =
+    same-test (samePacked p q) (sameBytes (unpack p) (unpack q))
+    (λ h. ap (λ x. sameBytes (unpack x) (unpack q)) (packed-is p q h) ∙ same-self (unpack q))
+    (λ h. ap (λ x. samePacked x q) (sym (pack-unpack p) ∙ ap packOf (same-is (unpack p) (unpack q) h) ∙ pack-unpack q) ∙ packed-self q)
+
+pub same-packed : (a b : Name) → length a ≤ 6 → length b ≤ 6 → allNameBytes a ≡ true → allNameBytes b ≡ true → samePacked (packOf a) (packOf b) ≡ sameBytes a b
+same-packed a b l m h k =
+    same-unpacked (packOf a) (packOf b) ∙ ap₂ sameBytes (unpack-pack a l h) (unpack-pack b m k)
+
+-- "X is predeclared"
+pub x-packed : (p : Packed) → isX (unpack p) ≡ samePacked p (record { one = 0o054000; two = 0; three = 0 })
+unfolding isX unpack trimmed beforeTrimmed
+x-packed p = sym (same-unpacked p (record { one = 0o054000; two = 0; three = 0 }))

@@ -1,0 +1,56 @@
+-- Worked examples, decided by computation.
+use mathlib.Core.Path.{_≡_, refl}
+use mathlib.Core.List.{List, [], _∷_}
+use mathlib.Core.Option.{none, some}
+use Prim.Native.Nat.{ℕ}
+use Rattle.source.specs.Bytes.{bytes, sameBytes, find}
+use Rattle.source.specs.Kinds
+use Rattle.source.specs.Tokens.{token, nameOf}
+use Rattle.syntax.specs.Tree.{Id}
+use Rattle.syntax.specs.Symbols.{Symbol, Level, nextId}
+use Rattle.symbols.specs.declared.Kind.{Kind}
+use Rattle.symbols.specs.Packing.{packOf, trimmed, beforeTrimmed, unpack}
+use Rattle.symbols.specs.Table.{kindOf, levelOf, symbolFrom, entryOf, rowAt, entriesOf, heldBy, entryIn, codeOf, numberOf, valueOf, stored, withRow, tableWith}
+
+packed : packOf (bytes "TOTAL") ≡ record { one = 0o052117; two = 0o052101; three = 0o046000 }
+unfolding packOf
+packed = refl
+
+-- "the first six count"
+six : packOf (nameOf (bytes ".INTEGER LENGTH1;") (token Kinds.name 0 9 7)) ≡ packOf (bytes "LENGTH")
+unfolding packOf nameOf
+six = refl
+
+unpacked : unpack (record { one = 0o052117; two = 0o052101; three = 0o046000 }) ≡ bytes "TOTAL"
+unfolding unpack trimmed beforeTrimmed
+unpacked = refl
+
+-- global 3, the integer A; then in procedure 4 the constant A of the value 9, local 0
+table : List ℕ
+table = 0o040400 ∷ 0 ∷ 0 ∷ 0 ∷ 1 ∷ 3 ∷ 0 ∷ 0o040400 ∷ 0 ∷ 0 ∷ 5 ∷ 2 ∷ 0 ∷ 9 ∷ []
+
+held :
+    entriesOf 2 table
+    ≡ (bytes "A", record { level = Level.inner 4; symbol = Symbol.constant (Id.local 4 0) 9 })
+    ∷ (bytes "A", record { level = Level.outer; symbol = Symbol.integer (Id.global 3) })
+    ∷ []
+unfolding table entriesOf rowAt unpack trimmed beforeTrimmed entryOf levelOf symbolFrom kindOf nextId
+held = refl
+
+-- "a local hides a global"
+newest : entryIn (heldBy 2 table) (bytes "A") ≡ some (record { level = Level.inner 4; symbol = Symbol.constant (Id.local 4 0) 9 })
+unfolding table heldBy entryIn entriesOf rowAt unpack trimmed beforeTrimmed entryOf levelOf symbolFrom kindOf nextId find sameBytes
+newest = refl
+
+too-short : entryIn (heldBy 3 table) (bytes "A") ≡ none
+unfolding table heldBy entryIn find
+too-short = refl
+
+-- the first entry of that table declared; without room nothing is stored
+declared : tableWith 0 (0 ∷ 0 ∷ 0 ∷ 0 ∷ 0 ∷ 0 ∷ 0 ∷ 1 ∷ []) (packOf (bytes "A")) 0 (Kind.Integer 3) ≡ 0o040400 ∷ 0 ∷ 0 ∷ 0 ∷ 1 ∷ 3 ∷ 0 ∷ 1 ∷ []
+unfolding tableWith withRow stored packOf codeOf numberOf valueOf
+declared = refl
+
+no-room : tableWith 1 (0 ∷ 0 ∷ 0 ∷ 0 ∷ 0 ∷ 0 ∷ 0 ∷ 1 ∷ []) (packOf (bytes "A")) 0 (Kind.Integer 3) ≡ 0 ∷ 0 ∷ 0 ∷ 0 ∷ 0 ∷ 0 ∷ 0 ∷ 1 ∷ []
+unfolding tableWith
+no-room = refl
