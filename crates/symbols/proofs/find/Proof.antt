@@ -68,7 +68,7 @@ entry-at-requires c κs = omega arith
 returns-2 : tie.Need-returns-2 Inv-loop μ-loop
 returns-2 c =
     let l = c .before .before .before in
-    ap answer (c .entry-at .ensures) ∙ sym (here _ _ _ (l .loop-test .taken) (sym (c .before .before .is-named .ensures) ∙ c .before .if2 .taken)) ∙ l .before .loop .inv .1
+    ap answer (c .entry-at .ensures) ∙ sym (here _ _ _ (omega arith) (sym (c .before .before .is-named .ensures) ∙ c .before .if2 .taken)) ∙ l .before .loop .inv .1
 
 loop-less : tie.Need-loop-less Inv-loop μ-loop
 loop-less c = omega arith
@@ -76,11 +76,11 @@ loop-less c = omega arith
 loop-again : tie.Need-loop-again Inv-loop μ-loop
 loop-again c =
     let l = c .before .before in
-    (omega arith, sym (next _ _ _ (l .loop-test .taken) (sym (c .before .is-named .ensures) ∙ c .if2 .left)) ∙ l .before .loop .inv .1)
+    (omega arith, sym (next _ _ _ (omega arith) (sym (c .before .is-named .ensures) ∙ c .if2 .left)) ∙ l .before .loop .inv .1)
 
 returns-3 : tie.Need-returns-3 Inv-loop μ-loop
 unfolding answer
-returns-3 c = sym (empty _ _ _ (c .loop-test .left)) ∙ c .before .loop .inv .1
+returns-3 c = sym (empty _ _ _ (omega arith)) ∙ c .before .loop .inv .1
 
 pub find-spec : {M : Type 1} → statement M
 find-spec =
