@@ -1,4 +1,6 @@
-// Reading the cases: decimal numbers, each followed by one blank or newline.
+// Reading the cases: decimal numbers.
+use case_input::Number;
+use case_input::parse_number;
 use effect::Registers;
 use effect::Switches;
 use machine::Clock;
@@ -7,45 +9,12 @@ use machine::Request;
 ghost use mathlib.Core.Path.{_≡_};
 ghost use lib.ListN.{length};
 
-// A number, and where the next one starts.
-pub struct Number {
-    pub value: u32,
-    pub next: usize,
-}
-
 // What a run starts with besides the image, and where the image's words start.
 pub struct Start {
     pub machine: Machine,
     pub clock: Clock,
     pub request: Request,
     pub next: usize,
-}
-
-fn is_digit(b: u8) -> bool {
-    if b < b'0' {
-        return false;
-    }
-    b <= b'9'
-}
-
-// A digit of ASCII modulo 16 is its value.
-fn appended(value: u32, digit: u8) -> u32 {
-    ((value as u64 * 10 + (digit % 16) as u64) % 4294967296) as u32
-}
-
-// A number that is missing is 0.
-pub fn parse_number(text: &[u8], at: usize) -> Number {
-    let mut at = at;
-    let mut value: u32 = 0;
-    while at < text.len() {
-        let b = text[at];
-        at += 1;
-        if !is_digit(b) {
-            break;
-        }
-        value = appended(value, b);
-    }
-    Number { value, next: at }
 }
 
 fn word(n: Number) -> u16 {

@@ -20,7 +20,7 @@ fn case(text: &[u8], at: usize, number: u32) -> usize {
 }
 
 fn cases(text: &[u8]) {
-    let count = input::parse_number(text, 0);
+    let count = case_input::parse_number(text, 0);
     let last = count.value;
     let mut at = count.next;
     for i in 0..last {

@@ -1,9 +1,9 @@
--- `machine_vectors::input::parse_number` is safe and ends: each turn passes a byte. The invariant says nothing. Assumes nothing.
+-- `case_input::parse_number` is safe and ends: each turn passes a byte. The invariant says nothing. Assumes nothing.
 use borrow.Author.Needs.{needs}
 use Prim.Native.Nat.{_-_}
 use lib.ListN.{length}
-use Rattle.machine_vectors.proofs.input.parse_number.Statement.{statement}
-use Rattle.machine_vectors.proofs.input.parse_number.Tie as tie
+use Rattle.case_input.proofs.parse_number.Statement.{statement}
+use Rattle.case_input.proofs.parse_number.Tie as tie
 
 abbrev Inv-loop : tie.InvT-loop
 Inv-loop text at at₀ value₀ at' value = Unit {0}

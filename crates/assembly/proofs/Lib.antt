@@ -1,0 +1,4 @@
+pub mod Images
+pub mod Words
+pub mod Declarations
+pub mod Programs

@@ -1,0 +1,92 @@
+-- A program emitted in the order of the code has the image of its map. Assumes nothing.
+use Prim.Native.Nat.{ℕ, _+_, _≤_}
+use mathlib.Core.Path.{_≡_, sym, ap, _∙_, subst}
+use mathlib.Core.List.{List, [], _∷_, _++_, map, map-append, foldl}
+use native.Mathlib.Omega.{arith}
+use lib.ListN.{length, set, replicate, length-map, length-replicate}
+use Rattle.syntax.specs.Tree.{Id, CellId, Declaration, Program}
+use Rattle.syntax.specs.Emission.{mainWords}
+use Rattle.syntax.specs.Parse.{Got}
+use Rattle.syntax.specs.Parse.Got.{got, failed}
+use Rattle.syntax.specs.Program.{parseProgram}
+use Rattle.syntax.specs.State.{State, start, step, stateAfter, finish}
+use Rattle.emission.specs.Map.{Word, initial, frame, fixedWords, placeAll, planOf, mapOf, imageOf}
+use Rattle.semantics.specs.WellFormed.{Kind, kindsOf, WellFormed}
+use Rattle.semantics.specs.EmissionLaws.{Extends}
+use Rattle.semantics.proofs.Acceptance.Parts.{Ok, ok}
+use Rattle.semantics.proofs.Acceptance.Declarations.{programs}
+use Rattle.semantics.proofs.Acceptance.Pools.{same}
+use Rattle.semantics.proofs.MemoryMap.Items.{fixed-length}
+use Rattle.semantics.proofs.MemoryMap.Here.{Here, placing, next, last-pool, tail, tail-length, empty, begin}
+use Rattle.semantics.proofs.MemoryMap.Closing.{closing, poolOf, poolFrom}
+use Rattle.emitter.specs.Programs.{stored, emitDeclarations, emitMain, emitProgram}
+use Rattle.assembly.specs.Assembly.{EmittedImage}
+use Rattle.assembly.proofs.Images.{placed-stored, stored-append, free-words, zero-again}
+use Rattle.assembly.proofs.Words.{emitted}
+use Rattle.assembly.proofs.Declarations.{fixed-values, few-literals, declaration-emitted}
+
+module _ (p : Program) where
+  abbrev ends : ℕ → ℕ
+  ends k = planOf p k .poolAt
+
+  -- ---- The main body and the last pool
+
+  module _ (st : State) (ks : List Kind) (m : List Word) (h : Here p st ks [] m) where
+    abbrev words : List Word
+    words = fixedWords (frame (planOf p (length (st .ends))) (st .code)) (mainWords (p .main) (st .code))
+
+    tail-values : map initial (tail p st) ≡ map initial words ++ finish st (p .main) .pool
+    tail-values =
+        map-append initial words (map Word.fixed (poolOf p st)) ∙ ap (λ (vs : List ℕ). map initial words ++ vs) (fixed-values (poolOf p st) ∙ last-pool p st ks m h)
+
+    -- the pool follows the code
+    pool-from : st .code + length (map initial words) ≡ finish st (p .main) .code
+    unfolding finish
+    pool-from = omega (arith, length-map words initial, fixed-length (frame (planOf p (length (st .ends))) (st .code)) (mainWords (p .main) (st .code)))
+
+    main-emitted : emitMain (poolFrom p st) st (p .main) (map initial m) ≡ map initial (mapOf p)
+    unfolding emitMain finish placeAll
+    main-emitted =
+        let ws = mainWords (p .main) (st .code) in
+        let c = closing p [] st ks m h in
+        let x : Extends (finish st (p .main) .pool) (poolOf p st) = subst (Extends (finish st (p .main) .pool)) (sym (last-pool p st ks m h)) (same (finish st (p .main) .pool)) in
+        let end : finish st (p .main) .code + length (finish st (p .main) .pool) ≤ st .array = h .last .space in
+        let top : st .array ≤ 16383 = h .room .top in
+        ap (λ (l : List ℕ). stored l (finish st (p .main) .code) (finish st (p .main) .pool))
+        (emitted (record { poolAt = poolFrom p st; locals = st .code }) (poolOf p st) (few-literals p st c (h .room .low)) ws
+        (record { image = map initial m; code = st .code; pool = st .pool }) x (omega arith))
+        ∙ sym (ap (map initial) (h .is) ∙ placed-stored m (st .code) (tail p st) (omega (arith, tail-length p st ks m h, h .size))
+        ∙ ap (stored (map initial m) (st .code)) tail-values
+        ∙ stored-append (map initial m) (st .code) (map initial words) (finish st (p .main) .pool)
+        ∙ ap (λ (k : ℕ). stored (stored (map initial m) (st .code) (map initial words)) k (finish st (p .main) .pool)) pool-from)
+
+  -- ---- Declaration by declaration
+
+  all-emitted : (ds : List Declaration) (st : State) (ks : List Kind) (m : List Word) → Here p st ks ds m
+      → emitMain (ends (length (foldl step st ds .ends))) (foldl step st ds) (p .main) (emitDeclarations ends st ds (map initial m)) ≡ map initial (mapOf p)
+  unfolding emitDeclarations
+  all-emitted [] st ks m h = main-emitted st ks m h
+  all-emitted (d ∷ ds) st ks m h =
+      ap (λ (l : List ℕ). emitMain (ends (length (foldl step (step st d) ds .ends))) (foldl step (step st d) ds) (p .main) (emitDeclarations ends (step st d) ds l))
+      (declaration-emitted p st ks ds m d h)
+      ∙ all-emitted ds (step st d) (ks ++ kindsOf (d ∷ [])) (placing p st d m) (next p st ks d ds m h)
+
+  -- ---- From the start
+
+  start-image : map initial (empty p) ≡ replicate 16384 0
+  unfolding stored
+  start-image =
+      placed-stored (replicate 16384 Word.free) 0 (Word.cell (CellId.named Id.x) 0 ∷ []) (omega (arith, length-replicate 16384 Word.free))
+      ∙ ap (λ (l : List ℕ). set l 0 0) (free-words 16384) ∙ zero-again 16384
+
+  program-emitted : WellFormed p → emitProgram ends p (replicate 16384 0) ≡ imageOf p
+  unfolding emitProgram imageOf stateAfter
+  program-emitted w = ap (emitProgram ends p) (sym start-image) ∙ all-emitted (p .declarations) start [] (empty p) (begin p w)
+
+well-formed : (g : Got Program) → Ok WellFormed g → (p : Program) (n : ℕ) → g ≡ got p n → WellFormed p
+well-formed (got q m) (ok w) p n e = let d : q ≡ p = cc in subst WellFormed d w
+well-formed (failed m at) h p n e = let z : _≡_ {A = ℕ} 0 1 = cc in absurd (omega arith)
+
+pub emitted-image : EmittedImage
+unfolding EmittedImage
+emitted-image source p n e = program-emitted p (well-formed (parseProgram source) (programs source) p n e)

@@ -1,0 +1,2 @@
+-- What emission in the order of the code comes to.
+pub mod Assembly

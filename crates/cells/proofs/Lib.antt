@@ -1,0 +1,4 @@
+-- What the proofs of several crates use.
+pub mod Laws
+pub mod Names
+pub mod Starts

@@ -1,0 +1,42 @@
+-- `cells::cell_at` meets its contract. Assumes nothing.
+use mathlib.Core.Path.{sym, _∙_}
+use Rattle.syntax.specs.Cells.{parseCell}
+use Rattle.cells.proofs.Laws.{got-read, pass, then-got}
+use borrow.Author.Needs.{needs}
+use Rattle.cells.proofs.cell_at.Statement.{statement}
+use Rattle.cells.proofs.cell_at.Tie as tie
+
+cell-start-at-requires : tie.Need-cell-start-at-requires
+cell-start-at-requires c κs = search needs
+
+enum-known-part : tie.Need-enum-known-part
+enum-known-part c = search needs
+
+enum-told : tie.Need-enum-told
+enum-told c = search needs
+
+no-cell-requires : tie.Need-no-cell-requires
+no-cell-requires c κs = search needs
+
+returns : tie.Need-returns
+unfolding parseCell
+returns c = pass _ _ _ (c .before .before .before .cell-start-at .ensures) (c .before .enum-told .given .1)
+
+cell-from-requires : tie.Need-cell-from-requires
+cell-from-requires c κs = search needs
+
+returns-2 : tie.Need-returns-2
+unfolding parseCell
+returns-2 c = c .cell-from .ensures ∙ sym (then-got _ (got-read (c .before .before .before .before .cell-start-at .ensures) (c .before .before .part .given .1)))
+
+pub cell-at-spec : {M : Type 1} → statement M
+cell-at-spec =
+    tie.close
+    (tie.spec
+    cell-start-at-requires
+    enum-known-part
+    enum-told
+    no-cell-requires
+    returns
+    cell-from-requires
+    returns-2)

@@ -1,0 +1,47 @@
+-- `cells::size_at` meets its contract. Assumes nothing.
+use borrow.Author.Tests.{le-leb, lt-leb}
+use Rattle.cells.proofs.Laws.{range-failed, range-in, range-out}
+use borrow.Author.Needs.{needs}
+use Rattle.cells.proofs.size_at.Statement.{statement}
+use Rattle.cells.proofs.size_at.Tie as tie
+
+constant-at-requires : tie.Need-constant-at-requires
+constant-at-requires c κs = search needs
+
+enum-told : tie.Need-enum-told
+enum-told c = search needs
+
+enum-told-2 : tie.Need-enum-told-2
+enum-told-2 c = search needs
+
+returns : tie.Need-returns
+returns c = range-failed _ _ _ _ _ (c .before .before .constant-at .ensures) (c .enum-told2 .given .1)
+
+size-of-requires : tie.Need-size-of-requires
+size-of-requires c κs = search needs
+
+returns-2 : tie.Need-returns-2
+returns-2 c = range-in _ _ _ _ _ (c .before .before .before .before .constant-at .ensures) (c .before .before .enum-told .given .1) (rw (← (c .before .size-of .ensures)) (le-leb _ _ (c .if1 .taken)))
+
+token-at-requires : tie.Need-token-at-requires
+token-at-requires c κs = search needs
+
+fail-at-requires : tie.Need-fail-at-requires
+fail-at-requires c κs = search needs
+
+returns-3 : tie.Need-returns-3
+returns-3 c = rw (c .fail-at .ensures, c .before .token-at .ensures) (range-out _ _ _ _ _ (c .before .before .before .before .before .before .constant-at .ensures) (c .before .before .before .before .enum-told .given .1) (rw (← (c .before .before .before .size-of .ensures)) (lt-leb _ _ (c .before .before .if1 .left))) _)
+
+pub size-at-spec : {M : Type 1} → statement M
+size-at-spec =
+    tie.close
+    (tie.spec
+    constant-at-requires
+    enum-told
+    enum-told-2
+    returns
+    size-of-requires
+    returns-2
+    token-at-requires
+    fail-at-requires
+    returns-3)

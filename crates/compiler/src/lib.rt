@@ -1,0 +1,142 @@
+// The compiler. A source is read twice by the same function: first on no image at all, so that one that fails has touched nothing, then on the image, with the pools' addresses that the first reading found.
+ghost use mathlib.Core.Path.{_≡_};
+ghost use Prim.Native.Nat.{_≤_};
+ghost use lib.ListN.{length, replicate};
+ghost use Rattle.emission.specs.Compile.{compileDef};
+ghost use Rattle.compiler.specs.Compile.{resultOn, answerOf, imageAfter};
+ghost use Rattle.compiler.specs.Passes.{Planned, countedOf};
+use cells::Part;
+use declarations::Ends;
+use declarations::ProgramAnswer;
+use declarations::program::program;
+use emitter::held_count;
+use symbols::clear;
+
+pub mod demand;
+
+const IMAGE_WORDS: usize = 16384;
+
+const SCRATCH_WORDS: usize = 12288;
+
+const SOURCE_BYTES: usize = 8192;
+
+// Failures that are told by a length, at offset 0.
+const WRONG_IMAGE: u16 = 1;
+
+const SHORT_SCRATCH: u16 = 2;
+
+const LONG_SOURCE: u16 = 3;
+
+// The first address of code.
+const FIRST_CODE: u32 = 0o1000;
+
+// What a source compiles to: the entry and the counts of words of code and of globals, or a failure's number and offset.
+pub enum Answer {
+    Accepted {
+        entry: u16,
+        words: u16,
+        globals: u16,
+    },
+    Failed {
+        number: u16,
+        at: usize,
+    },
+}
+
+// Where each sector's code ends, the open sector's last: there its pool begins.
+fn plan_of(ends: Ends, code: u16) -> Ends
+    requires { ⌜ ends .count ≤ 30 ⌝ }
+    ensures { λ r. ⌜ Planned ends code r ⌝ }
+{
+    let from = ends.codes;
+    let count = ends.count;
+    let mut codes = [0u16; 32];
+    let mut i = 0;
+    while i < count {
+        codes[i] = from[i];
+        i += 1;
+    }
+    codes[count] = code;
+    Ends {
+        codes,
+        count: count + 1,
+    }
+}
+
+// The answer for a program that was read.
+fn accepted(read: ProgramAnswer) -> Answer
+    ensures { λ r. ⌜ r ≡ countedOf read ⌝ }
+{
+    let state = read.state;
+    let end = read.end;
+    let output = state.output;
+    let pool = end.pool;
+    let after = end.code as u32 + held_count(pool) as u32;
+    let words = if after < FIRST_CODE {
+        0
+    } else {
+        (after - FIRST_CODE) as u16
+    };
+    Answer::Accepted {
+        entry: output.code,
+        words,
+        globals: state.words,
+    }
+}
+
+// The two readings.
+fn passes(source: &[u8], image: &mut [u16], scratch: &mut [u16]) -> Answer
+    requires { ⌜ (length (now source) ≤ 8192) × (length (now image) ≡ 16384) × (3584 ≤ length (now scratch)) ⌝ }
+    ensures { λ r. ⌜ (r ≡ answerOf (compileDef (now (source .entry)))) × (now (image .exit) ≡ imageAfter (compileDef (now (source .entry))) (now (image .entry))) ⌝ }
+{
+    let unplanned = Ends {
+        codes: [0u16; 32],
+        count: 0,
+    };
+    let read = program(source, &mut *scratch, &mut image[0..0], unplanned);
+    let part = read.part;
+    if let Part::Failed { number, at } = part {
+        return Answer::Failed { number, at };
+    }
+    let state = read.state;
+    let end = read.end;
+    let ends = state.ends;
+    let plan = plan_of(ends, end.code);
+    clear(&mut *image);
+    program(source, &mut *scratch, &mut *image, plan);
+    accepted(read)
+}
+
+// The lengths are judged before anything is read.
+fn judged(source: &[u8], image: &mut [u16], scratch: &mut [u16]) -> Answer
+    ensures { λ r. ⌜ (r ≡ answerOf (resultOn (now (source .entry)) (now (image .entry)) (now (scratch .entry)))) × (now (image .exit) ≡ imageAfter (resultOn (now (source .entry)) (now (image .entry)) (now (scratch .entry))) (now (image .entry))) ⌝ }
+{
+    if image.len() != IMAGE_WORDS {
+        return Answer::Failed {
+            number: WRONG_IMAGE,
+            at: 0,
+        };
+    }
+    if scratch.len() < SCRATCH_WORDS {
+        return Answer::Failed {
+            number: SHORT_SCRATCH,
+            at: 0,
+        };
+    }
+    if SOURCE_BYTES < source.len() {
+        return Answer::Failed {
+            number: LONG_SOURCE,
+            at: 0,
+        };
+    }
+    passes(source, &mut *image, &mut *scratch)
+}
+
+// Whatever the answer, scratch ends as zeros.
+pub fn compile(source: &[u8], image: &mut [u16], scratch: &mut [u16]) -> Answer
+    ensures { λ r. ⌜ (r ≡ answerOf (resultOn (now (source .entry)) (now (image .entry)) (now (scratch .entry)))) × (now (image .exit) ≡ imageAfter (resultOn (now (source .entry)) (now (image .entry)) (now (scratch .entry))) (now (image .entry))) × (now (scratch .exit) ≡ replicate (length (now (scratch .entry))) 0) ⌝ }
+{
+    let answer = judged(source, &mut *image, &mut *scratch);
+    clear(&mut *scratch);
+    answer
+}

@@ -1,0 +1,175 @@
+-- Items declared and laid, one after another. Assumes nothing.
+use Prim.Native.Nat.{ℕ, zero, suc, _+_, _*_, _≤_, _<_}
+use mathlib.Core.Path.{_≡_, refl, sym, ap, ap₂, _∙_}
+use mathlib.Core.List.{List, [], _∷_, _++_, foldl, append-assoc}
+use native.Mathlib.Omega.{arith}
+use lib.ListN.{length, set, take, length-append}
+use lib.Seq.{take-take}
+use Rattle.syntax.specs.Tree.{Name, Item}
+use Rattle.syntax.specs.Symbols.{Scope, wordsTaken, itemSymbol, declare, declareItem}
+use Rattle.source.specs.Kinds
+use Rattle.source.specs.declared.Token.{Token}
+use Rattle.source.specs.Tokens.{tokenAt}
+use Rattle.syntax.specs.Parse.{andThen, expect, snoc}
+use Rattle.syntax.specs.Parse.Got.{got, failed}
+use Rattle.syntax.specs.Cells.{parseConstant}
+use Rattle.syntax.specs.Declarations.{ItemWord, newName, itemLimit, parseValue, itemFrom, parseItem, parseLocal}
+use Rattle.symbols.specs.declared.Packed.{Packed}
+use Rattle.symbols.specs.declared.Kind.{Kind}
+use Rattle.symbols.specs.Packing.{unpack}
+use Rattle.symbols.specs.Table.{levelOf, levelWord, entryOf, heldBy, Declared, itemKind}
+use Rattle.symbols.proofs.Entries.{item-entry, held-all, entries-kept}
+use Rattle.emitter.specs.Programs.{stored, itemValues, localValues}
+use Rattle.cells.specs.declared.Part.{Part}
+use Rattle.cells.specs.Answers.{gotWith}
+use Rattle.declarations.specs.declared.Scope as code
+use Rattle.declarations.specs.Scopes.{scopeOf, Room, Scoped}
+use Rattle.declarations.proofs.Reading.{then-got, then-failed, then-inv, read-with, map-then}
+use Rattle.declarations.proofs.Naming.{name-room, limit-same}
+
+-- ---- Lists
+
+pub fold-append : {A B : Type 0} (f : A → B → A) (a : A) (xs ys : List B) → foldl f a (xs ++ ys) ≡ foldl f (foldl f a xs) ys
+fold-append f a [] ys = refl
+fold-append f a (x ∷ xs) ys = fold-append f (f a x) xs ys
+
+pub append-nil : {A : Type 0} (xs : List A) → xs ++ [] ≡ xs
+append-nil [] = refl
+append-nil (x ∷ xs) = ap (λ l. x ∷ l) (append-nil xs)
+
+pub take-less : (m n : ℕ) (a b : List ℕ) → m ≤ n → take n a ≡ take n b → take m a ≡ take m b
+take-less m n a b h e = sym (take-take m n a h) ∙ ap (take m) e ∙ take-take m n b h
+
+pub stored-append : (image : List ℕ) (at : ℕ) (us vs : List ℕ) → stored image at (us ++ vs) ≡ stored (stored image at us) (at + length us) vs
+unfolding stored
+stored-append image at [] vs = ap (λ a. stored image a vs) (omega arith)
+stored-append image at (u ∷ us) vs =
+    let q : suc at + length us ≡ at + length (u ∷ us) = omega arith in
+    stored-append (set image at u) (suc at) us vs ∙ ap (λ a. stored (stored (set image at u) (suc at) us) a vs) q
+
+pub values-append : (xs ys : List (Name × Item)) → localValues (xs ++ ys) ≡ localValues xs ++ localValues ys
+unfolding localValues
+values-append [] ys = refl
+values-append (x ∷ xs) ys = ap (λ l. itemValues (x .1) ++ l) (values-append xs ys) ∙ sym (append-assoc (itemValues (x .1)) (localValues xs) (localValues ys))
+
+-- ---- Words that items take
+
+pub item-words : (scope : Scope) (item : Item) → wordsTaken (itemSymbol scope item) ≡ length (itemValues item)
+unfolding wordsTaken itemSymbol itemValues
+item-words scope Item.integer = refl
+item-words scope (Item.constant v) = refl
+item-words scope (Item.compconstant v) = refl
+
+pub fold-words : (scope : Scope) (items : List (Name × Item)) → foldl declareItem scope items .words ≡ scope .words + length (localValues items)
+unfolding declareItem declare localValues
+fold-words scope [] = omega arith
+fold-words scope (x ∷ xs) =
+    let h = fold-words (declareItem scope x) xs in
+    let w = item-words scope (x .1) in
+    let l = length-append (itemValues (x .1)) (localValues xs) in
+    omega (arith, h, w, l)
+
+-- ---- Entries
+
+pub level-back : (n : ℕ) → levelWord (levelOf n) ≡ n
+unfolding levelWord levelOf
+level-back zero = refl
+level-back (suc p) = refl
+
+pub held-more : (n : ℕ) (t u : List ℕ) (name : Packed) (level : ℕ) (kind : Kind) → 7 * n + 7 ≤ length t → length u ≡ length t → Declared n t name level kind u
+    → heldBy (n + 1) u ≡ (unpack name, entryOf level kind) ∷ heldBy n t
+held-more n t u name level kind room long d =
+    held-all (n + 1) u (omega arith) ∙ d .newest (omega arith) ∙ ap (λ l. (unpack name, entryOf level kind) ∷ l) (sym (held-all n t (omega arith)))
+
+-- the entries below a place that is kept
+pub held-kept : (n m : ℕ) (t u : List ℕ) → n ≤ m → 7 * n ≤ length t → length u ≡ length t → take (7 * m) u ≡ take (7 * m) t → heldBy n u ≡ heldBy n t
+held-kept n m t u l room long h = held-all n u (omega arith) ∙ entries-kept n m u t l h ∙ sym (held-all n t room)
+
+-- ---- One item
+
+module _ (s : code.Scope) (t u image after : List ℕ) (name : Packed) (item : Item) (taken : ℕ) where
+  pub one-scoped : Room s t → s .names < 512 → length u ≡ length t → Declared (s .names) t name (s .level) (itemKind (s .words) item) u
+      → taken ≡ length (itemValues item) → taken ≤ 1 → after ≡ stored image (s .base + s .words) (itemValues item)
+      → Scoped s t image (record { names = s .names + 1; level = s .level; words = s .words + taken; base = s .base }) u after ((unpack name, item) ∷ [])
+  unfolding declareItem declare localValues
+  one-scoped r few long d e small is =
+      let S = scopeOf s t in
+      let room = r .long in
+      let each = r .each in
+      let entry = ap (λ l. entryOf l (itemKind (s .words) item)) (sym (level-back (s .level))) ∙ item-entry S item in
+      let names = held-more (s .names) t u name (s .level) (itemKind (s .words) item) (omega arith) long d ∙ ap (λ x. (unpack name, x) ∷ heldBy (s .names) t) entry in
+      let words : s .words + taken ≡ s .words + wordsTaken (itemSymbol S item) = ap (λ x. s .words + x) (e ∙ sym (item-words S item)) in
+      record {
+        scope = ap₂ (λ x y. record { names = x; level = levelOf (s .level); words = y }) names words;
+        room = record { long = omega arith; few = omega arith; each = omega arith };
+        level = refl;
+        base = refl;
+        grows = omega arith;
+        kept = d .kept;
+        laid = is ∙ ap (stored image (s .base + s .words)) (sym (append-nil (itemValues item)));
+      }
+
+-- ---- One after another
+
+pub none-scoped : (s : code.Scope) (t image : List ℕ) → Room s t → Scoped s t image s t image []
+unfolding localValues stored
+none-scoped s t image r = record { scope = refl; room = r; level = refl; base = refl; grows = omega arith; kept = refl; laid = refl }
+
+module _ {s s' s'' : code.Scope} {t t' t'' i i' i'' : List ℕ} {xs ys : List (Name × Item)} where
+  pub more-scoped : Scoped s t i s' t' i' xs → Scoped s' t' i' s'' t'' i'' ys → Scoped s t i s'' t'' i'' (xs ++ ys)
+  more-scoped p q =
+      let g = p .grows in
+      let h = q .grows in
+      let b = p .base in
+      let w = ap (λ x. x .words) (p .scope) ∙ fold-words (scopeOf s t) xs in
+      let at : s' .base + s' .words ≡ (s .base + s .words) + length (localValues xs) = omega (arith, b, w) in
+      record {
+        scope = q .scope ∙ ap (λ x. foldl declareItem x ys) (p .scope) ∙ sym (fold-append declareItem (scopeOf s t) xs ys);
+        room = q .room;
+        level = q .level ∙ p .level;
+        base = q .base ∙ p .base;
+        grows = omega (arith, g, h);
+        kept = take-less (7 * s .names) (7 * s' .names) t'' t' (omega (arith, g)) (q .kept) ∙ p .kept;
+        laid = q .laid ∙ ap₂ (λ x a. stored x a (localValues ys)) (p .laid) at ∙ sym (stored-append i (s .base + s .words) (localValues xs) (localValues ys)) ∙ ap (stored i (s .base + s .words)) (sym (values-append xs ys));
+      }
+
+-- ---- A local, after those that are done
+
+module _ (source : List ℕ) (S : Scope) (word : ItemWord) (done : List (Name × Item)) (at : ℕ) {now : Scope} (e : now ≡ foldl declareItem S done) where
+  pub local-got : {x : Name × Item} {n : ℕ} → parseItem source word now at ≡ got x n → parseLocal source S word done at ≡ got (snoc done x) n
+  unfolding parseLocal
+  local-got h = then-got _ (ap (λ z. parseItem source word z at) (sym e) ∙ h)
+
+  pub local-failed : {k a : ℕ} → parseItem source word now at ≡ failed k a → parseLocal source S word done at ≡ failed k a
+  unfolding parseLocal
+  local-failed h = then-failed _ (ap (λ z. parseItem source word z at) (sym e) ∙ h)
+
+-- ---- A name and its item
+
+pub named-by : (source : List ℕ) (word : ItemWord) (s : code.Scope) (table : List ℕ) (t : Token) {limit : ℕ} → limit ≡ itemLimit word (scopeOf s []) → newName source (scopeOf s table) limit t ≡ newName source (scopeOf s table) (itemLimit word (scopeOf s table)) t
+named-by source word s table t e = ap (λ l. newName source (scopeOf s table) l t) (e ∙ limit-same word (scopeOf s []) (scopeOf s table) refl refl)
+
+module _ (source : List ℕ) (scope : Scope) (at : ℕ) where
+  pub item-failed : (word : ItemWord) {k a : ℕ} → newName source scope (itemLimit word scope) (tokenAt source at) ≡ failed k a → parseItem source word scope at ≡ failed k a
+  unfolding parseItem
+  item-failed word e = then-failed _ e
+
+  pub item-integer : (part : Part) {name : Name} {n : ℕ} → newName source scope (itemLimit ItemWord.integer scope) (tokenAt source at) ≡ got name n → part ≡ Part.Read n
+      → gotWith part (name, Item.integer) ≡ parseItem source ItemWord.integer scope at
+  unfolding parseItem itemFrom
+  item-integer part e h = read-with h (then-got _ e)
+
+  pub item-constant : (part : Part) (v : ℕ) {name : Name} {n : ℕ} → newName source scope (itemLimit ItemWord.constant scope) (tokenAt source at) ≡ got name n
+      → gotWith part v ≡ andThen (expect Kinds.equal source n) (λ _ m. parseConstant source (scope .names) m) → gotWith part (name, Item.constant v) ≡ parseItem source ItemWord.constant scope at
+  unfolding parseItem itemFrom parseValue
+  item-constant part v {name} {n} e h = map-then (λ x. (name, Item.constant x)) part v (expect Kinds.equal source n) (λ m. parseConstant source (scope .names) m) h ∙ sym (then-got _ e)
+
+  pub item-compconstant : (part : Part) (v : ℕ) {name : Name} {n : ℕ} → newName source scope (itemLimit ItemWord.compconstant scope) (tokenAt source at) ≡ got name n
+      → gotWith part v ≡ andThen (expect Kinds.equal source n) (λ _ m. parseConstant source (scope .names) m) → gotWith part (name, Item.compconstant v) ≡ parseItem source ItemWord.compconstant scope at
+  unfolding parseItem itemFrom parseValue
+  item-compconstant part v {name} {n} e h = map-then (λ x. (name, Item.compconstant x)) part v (expect Kinds.equal source n) (λ m. parseConstant source (scope .names) m) h ∙ sym (then-got _ e)
+
+-- an item that was read had a name's room
+pub item-room : (source : List ℕ) (word : ItemWord) (scope : Scope) (at : ℕ) {x : Name × Item} {n : ℕ} → parseItem source word scope at ≡ got x n → length (scope .names) < 512
+unfolding parseItem
+item-room source word scope at e = name-room source scope (itemLimit word scope) (tokenAt source at) ((then-inv _ _ e) .2)

@@ -1,0 +1,104 @@
+-- States, and declarations one after another. Assumes nothing.
+use Prim.Native.Nat.{ℕ, suc, _+_, _*_, _≤_, _<_}
+use mathlib.Core.Path.{_≡_, refl, sym, ap, ap₂, _∙_}
+use mathlib.Core.List.{List, [], _∷_, _++_, foldl}
+use native.Mathlib.Omega.{arith}
+use native.Mathlib.Numerals.{add-one}
+use lib.ListN.{length, getD, set, take, replicate, length-replicate, replicate-append-replicate}
+use lib.Seq.{take-suc, take-suc-set, length-take-le}
+use Rattle.syntax.specs.Tree.{Declaration}
+use Rattle.syntax.specs.Symbols.{Level}
+use Rattle.syntax.specs.State as states
+use Rattle.symbols.specs.Table.{heldBy}
+use Rattle.emitter.specs.Emitted as emitted
+use Rattle.emitter.specs.Programs.{stored, emitDeclaration, emitDeclarations}
+use Rattle.declarations.specs.declared.Ends.{Ends}
+use Rattle.declarations.specs.declared.State.{State}
+use Rattle.emitter.specs.declared.Output.{Output}
+use Rattle.declarations.specs.States.{endsOf, endOf, poolOf, stateOf, Sound, Declared, Anyhow, Moved}
+use Rattle.declarations.proofs.Scoping.{fold-append, stored-append}
+
+-- ---- Words stored one after another
+
+pub stored-snoc : (image : List ℕ) (at : ℕ) (us : List ℕ) (v : ℕ) → stored image at (us ++ (v ∷ [])) ≡ set (stored image at us) (at + length us) v
+unfolding stored
+stored-snoc image at us v = stored-append image at us (v ∷ [])
+
+-- one more, after those that are stored
+module _ (image : List ℕ) (at : ℕ) {now after : List ℕ} where
+  pub stored-more : (us : List ℕ) (v i : ℕ) → length us ≡ i → now ≡ stored image at us → after ≡ set now (at + i) v → after ≡ stored image at (us ++ (v ∷ []))
+  stored-more us v i l e h = h ∙ ap (λ x. set x (at + i) v) e ∙ ap (λ k. set (stored image at us) (at + k) v) (sym l) ∙ sym (stored-snoc image at us v)
+
+  pub stored-next : (us : List ℕ) (i : ℕ) → i < length us → now ≡ stored image at (take i us) → after ≡ set now (at + i) (getD us i 0) → after ≡ stored image at (take (i + 1) us)
+  stored-next us i l e h =
+      stored-more (take i us) (getD us i 0) i (length-take-le i us (omega arith)) e h ∙ ap (stored image at) (sym (take-suc us i 0 l)) ∙ ap (λ k. stored image at (take k us)) (sym (add-one i))
+
+  pub stored-zero : (i : ℕ) → now ≡ stored image at (replicate i 0) → after ≡ set now (at + i) 0 → after ≡ stored image at (replicate (i + 1) 0)
+  stored-zero i e h = stored-more (replicate i 0) 0 i (length-replicate i 0) e h ∙ ap (stored image at) (replicate-append-replicate i 1 0)
+
+-- ---- The code ends
+
+pub ends-length : (e : Ends) → length (e .codes) ≡ 32 → e .count ≤ 30 → length (endsOf e) ≡ e .count
+ends-length e l h = length-take-le (e .count) (e .codes) (omega arith)
+
+pub one-end : (ends : List ℕ) (n v : ℕ) → n < length ends → take (n + 1) (set ends n v) ≡ take n ends ++ (v ∷ [])
+one-end ends n v h = rw add-one (take-suc-set ends n v h)
+
+-- ---- One after another
+
+pub emit-append : (ends : ℕ → ℕ) (st : states.State) (ds es : List Declaration) (image : List ℕ) → emitDeclarations ends st (ds ++ es) image ≡ emitDeclarations ends (foldl states.step st ds) es (emitDeclarations ends st ds image)
+unfolding emitDeclarations
+emit-append ends st [] es image = refl
+emit-append ends st (d ∷ ds) es image = emit-append ends (states.step st d) ds es (emitDeclaration (ends (length (st .ends))) st d image)
+
+pub none-declared : (plan : Ends) (s : State) (t i : List ℕ) → Sound s → Declared plan s t i s t i []
+unfolding emitDeclarations
+none-declared plan s t i h = record { state = refl; sound = h; laid = refl }
+
+module _ {plan : Ends} {s s' s'' : State} {t t' t'' i i' i'' : List ℕ} {xs ys : List Declaration} where
+  pub more-declared : Declared plan s t i s' t' i' xs → Declared plan s' t' i' s'' t'' i'' ys → Declared plan s t i s'' t'' i'' (xs ++ ys)
+  more-declared p q =
+      record {
+        state = q .state ∙ ap (λ x. foldl states.step x ys) (p .state) ∙ sym (fold-append states.step (stateOf s t) xs ys);
+        sound = q .sound;
+        laid = q .laid ∙ ap₂ (λ x y. emitDeclarations (endOf plan) x ys y) (p .state) (p .laid) ∙ sym (emit-append (endOf plan) (stateOf s t) xs ys i);
+      }
+
+pub by-plan : (plan : Ends) {s s' : State} {t t' i i' : List ℕ} {xs : List Declaration} → Anyhow s t i s' t' i' xs → Declared plan s t i s' t' i' xs
+by-plan plan p = record { state = p .state; sound = p .sound; laid = p .laid (endOf plan) }
+
+pub none-anyhow : (s : State) (t i : List ℕ) → Sound s → Anyhow s t i s t i []
+unfolding emitDeclarations
+none-anyhow s t i h = record { state = refl; sound = h; laid = λ ends. refl }
+
+module _ {s s' s'' : State} {t t' t'' i i' i'' : List ℕ} {xs ys : List Declaration} where
+  pub more-anyhow : Anyhow s t i s' t' i' xs → Anyhow s' t' i' s'' t'' i'' ys → Anyhow s t i s'' t'' i'' (xs ++ ys)
+  more-anyhow p q =
+      record {
+        state = q .state ∙ ap (λ x. foldl states.step x ys) (p .state) ∙ sym (fold-append states.step (stateOf s t) xs ys);
+        sound = q .sound;
+        laid = λ ends. q .laid ends ∙ ap₂ (λ x y. emitDeclarations ends x ys y) (p .state) (p .laid ends) ∙ sym (emit-append ends (stateOf s t) xs ys i);
+      }
+
+-- ---- `.NEXTSECTOR`
+
+pub next-moved : (s : State) (image image' : List ℕ) (ends : Ends) (output : Output) → Sound s → length (s .ends .codes) ≡ 32 → s .ends .count + 1 ≤ 30 → endsOf ends ≡ endsOf (s .ends) ++ (s .output .code ∷ [])
+    → ends .count ≡ s .ends .count + 1 → output .code ≡ 512 * (s .ends .count + 2) → emitted.heldBy (output .pool) ≡ [] → image' ≡ stored image (s .output .code) (poolOf s)
+    → Moved s image (record { names = s .names; words = s .words; output = output; ends = ends; array = s .array }) image' (Declaration.nextSector ∷ [])
+unfolding emitDeclarations emitDeclaration states.step
+next-moved s image image' ends output h long few e count code pool laid =
+    let l = ends-length (s .ends) long (h .last) in
+    let c : output .code ≡ 512 * suc (suc (length (endsOf (s .ends)))) = omega (arith, code, l) in
+    let n = ap length pool in
+    record {
+      at = λ table. record {
+        state = next-state table c pool e;
+        sound = record { few = h .few; each = h .each; last = omega (arith, few, count); used = omega (arith, n, code, count); fits = omega (arith, n, code, count); top = h .top };
+        laid = λ _. laid;
+      };
+    }
+  where
+    next-state : (table : List ℕ) → output .code ≡ 512 * suc (suc (length (endsOf (s .ends)))) → emitted.heldBy (output .pool) ≡ [] → endsOf ends ≡ endsOf (s .ends) ++ (s .output .code ∷ [])
+        → _≡_ {A = states.State} (record { scope = record { names = heldBy (s .names) table; level = Level.outer; words = s .words }; code = output .code; pool = emitted.heldBy (output .pool); ends = endsOf ends; array = s .array })
+        (record { scope = record { names = heldBy (s .names) table; level = Level.outer; words = s .words }; code = 512 * suc (suc (length (endsOf (s .ends)))); pool = []; ends = endsOf (s .ends) ++ (s .output .code ∷ []); array = s .array })
+    next-state table p q r = rw (p, q, r)

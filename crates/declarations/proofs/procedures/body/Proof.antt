@@ -1,0 +1,82 @@
+-- `procedures::body` meets its contract. Assumes nothing.
+use mathlib.Core.Path.{_∙_}
+use Rattle.declarations.specs.Reads.{Reads}
+use Rattle.declarations.proofs.Reading.{came, failed-as}
+use Rattle.declarations.proofs.Proceeding.{compiled, compiled-failed, body-locals, body-statements, body-on, body-bodied}
+use borrow.Author.Needs.{needs}
+use Rattle.declarations.proofs.procedures.body.Statement.{statement}
+use Rattle.declarations.proofs.procedures.body.Tie as tie
+
+frame-requires : tie.Need-frame-requires
+frame-requires c κs = c .before .before .before .before .before .pre
+
+enum-known-part : tie.Need-enum-known-part
+enum-known-part c = search needs
+
+enum-told : tie.Need-enum-told
+enum-told c = search needs
+
+same-length : tie.Need-same-length
+same-length c = c .before .before .before .before .before .before .before .frame .kept .1 .0
+
+same-length-2 : tie.Need-same-length-2
+same-length-2 c = c .before .before .before .before .before .before .before .frame .kept .1 .1 .0
+
+returns : tie.Need-returns
+returns c = Reads.fails (body-locals _ _ _ _ (failed-as (c .before .before .before .before .before .before .before .frame .ensures) (c .enum-told .given .1))) (c .enum-told .given .1)
+
+statements-requires : tie.Need-statements-requires
+statements-requires c κs = search needs
+
+enum-told-2 : tie.Need-enum-told-2
+enum-told-2 c = search needs
+
+enum-told-3 : tie.Need-enum-told-3
+enum-told-3 c = search needs
+
+same-length-3 : tie.Need-same-length-3
+same-length-3 c = c .before .before .before .before .before .before .before .before .before .before .before .before .before .before .before .before .frame .kept .1 .0
+
+same-length-4 : tie.Need-same-length-4
+same-length-4 c = c .before .before .before .before .before .statements .kept .1 .1 .0 ∙ c .before .before .before .before .before .before .before .before .before .before .before .before .before .before .before .before .frame .kept .1 .1 .0
+
+returns-2 : tie.Need-returns-2
+returns-2 c =
+    let r = came (c .before .before .before .before .before .before .before .before .before .before .before .before .before .before .before .before .frame .ensures) (c .before .before .before .before .before .before .before .before .before .part .given .1) in
+    Reads.fails (body-statements _ _ _ _ (r .parsed) (r .does .alive) (compiled-failed (c .before .before .before .before .before .statements .ensures) (c .enum-told3 .given .1))) (c .enum-told3 .given .1)
+
+emit-return-requires : tie.Need-emit-return-requires
+emit-return-requires c κs = search needs
+
+same-length-5 : tie.Need-same-length-5
+same-length-5 c = c .before .before .before .before .before .before .before .before .before .before .before .before .before .before .before .before .before .before .before .before .frame .kept .1 .0
+
+same-length-6 : tie.Need-same-length-6
+same-length-6 c = c .before .before .emit-return .kept .0 ∙ c .before .before .before .before .before .before .before .before .before .statements .kept .1 .1 .0 ∙ c .before .before .before .before .before .before .before .before .before .before .before .before .before .before .before .before .before .before .before .before .frame .kept .1 .1 .0
+
+returns-3 : tie.Need-returns-3
+returns-3 c =
+    let r = came (c .before .before .before .before .before .before .before .before .before .before .before .before .before .before .before .before .before .before .before .before .frame .ensures) (c .before .before .before .before .before .before .before .before .before .before .before .before .before .part .given .1) in
+    let q = compiled (c .before .before .before .before .before .before .before .before .before .statements .ensures) (c .before .before .before .before .enum-told2 .given .1) in
+    Reads.read (body-on _ _ _ _ (r .parsed) (r .does .alive) (q .parsed)) (c .before .before .before .before .enum-told2 .given .1) (body-bodied _ (c .before .before .before .before .before .before .before .before .before .statements .result .output) (r .does) (q .does) (c .before .before .emit-return .ensures))
+
+pub body-spec : {M : Type 1} → statement M
+body-spec =
+    tie.close
+    (tie.spec
+    frame-requires
+    enum-known-part
+    enum-told
+    same-length
+    same-length-2
+    returns
+    statements-requires
+    enum-told-2
+    enum-told-3
+    same-length-3
+    same-length-4
+    returns-2
+    emit-return-requires
+    same-length-5
+    same-length-6
+    returns-3)

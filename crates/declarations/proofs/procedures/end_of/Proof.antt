@@ -1,0 +1,21 @@
+-- `procedures::end_of` meets its contract. Assumes nothing.
+use mathlib.Core.Path.{_≡_, refl}
+use lib.ListN.{length}
+use Rattle.declarations.proofs.Stating.{ends-length}
+use borrow.Author.Needs.{needs}
+use Rattle.declarations.proofs.procedures.end_of.Statement.{statement}
+use Rattle.declarations.proofs.procedures.end_of.Tie as tie
+
+mul-result : tie.Need-mul-result
+mul-result c = search needs
+
+array-read-result : tie.Need-array-read-result
+array-read-result c = search needs
+
+returns : tie.Need-returns
+returns c =
+    let long : length (c .before .args .ends .codes) ≡ 32 = search needs in
+    (refl, ends-length (c .before .args .ends) long (c .before .pre))
+
+pub end-of-spec : {M : Type 1} → statement M
+end-of-spec = tie.close (tie.spec mul-result array-read-result returns)

@@ -1,0 +1,11 @@
+-- What reading a part of the source promises, against what the part is parsed as. Assumes nothing.
+use Prim.Native.Nat.{ℕ}
+use mathlib.Core.Path.{_≡_}
+use Rattle.syntax.specs.Parse.{Got}
+use Rattle.syntax.specs.Parse.Got.{got, failed}
+use Rattle.cells.specs.declared.Part.{Part}
+
+-- the part was parsed as t up to n: n is answered, and t is done. Or a failure is answered with its number and offset; nothing is said of the rest then
+pub data Reads {A : Type 0} (done : A → Type 0) (part : Part) (g : Got A) : Type 0 where
+  read : {t : A} {n : ℕ} → g ≡ got t n → part ≡ Part.Read n → done t → Reads done part g
+  fails : {k at : ℕ} → g ≡ failed k at → part ≡ Part.Failed k at → Reads done part g

@@ -1,0 +1,63 @@
+-- The code's state as the definitions' state, and what a declaration does to it. Assumes nothing.
+use Prim.Native.Nat.{ℕ, _+_, _*_, _≤_}
+use mathlib.Core.Path.{_≡_}
+use mathlib.Core.List.{List, foldl}
+use lib.Dec.{leb}
+use lib.ListN.{length, getD, take}
+use Rattle.source.specs.Bytes.{whether}
+use Rattle.syntax.specs.Tree.{Declaration}
+use Rattle.syntax.specs.Symbols.{Level}
+use Rattle.syntax.specs.State as states
+use Rattle.symbols.specs.Table.{heldBy}
+use Rattle.emitter.specs.Emitted as emitted
+use Rattle.emitter.specs.Programs.{emitDeclarations}
+use Rattle.declarations.specs.declared.Ends.{Ends}
+use Rattle.declarations.specs.declared.State.{State}
+
+-- the code ends that count
+abbrev pub endsOf : Ends → List ℕ
+endsOf e = take (e .count) (e .codes)
+
+-- where a sector's code ends, by the sector's place
+abbrev pub endOf : Ends → ℕ → ℕ
+endOf e k = getD (e .codes) k 0
+
+abbrev pub poolOf : State → List ℕ
+poolOf s = emitted.heldBy (s .output .pool)
+
+-- ABSTRACTION: the definitions' state that the code's stands for, with the symbol table in lent words
+abbrev pub stateOf : State → List ℕ → states.State
+stateOf s table =
+    record { scope = record { names = heldBy (s .names) table; level = Level.outer; words = s .words }; code = s .output .code; pool = poolOf s; ends = endsOf (s .ends); array = s .array }
+
+-- what holds between declarations: each word is a name's, code and pool fit the open sector, and each word of the pool has a word that uses it
+pub record Sound (s : State) : Type 0 where
+  pub few : s .names ≤ 512
+  pub each : s .words ≤ s .names
+  pub last : s .ends .count ≤ 30
+  pub used : length (poolOf s) + 512 * (s .ends .count + 1) ≤ s .output .code
+  pub fits : s .output .code + length (poolOf s) ≤ 512 * (s .ends .count + 2)
+  pub top : s .array ≤ 16383
+
+-- declarations: the state is the definition's, and their words are on the image
+pub record Declared (plan : Ends) (s : State) (table image : List ℕ) (s' : State) (table' image' : List ℕ) (new : List Declaration) : Type 0 where
+  pub state : stateOf s' table' ≡ foldl states.step (stateOf s table) new
+  pub sound : Sound s'
+  pub laid : image' ≡ emitDeclarations (endOf plan) (stateOf s table) new image
+
+-- the same whatever the plan
+pub record Anyhow (s : State) (table image : List ℕ) (s' : State) (table' image' : List ℕ) (new : List Declaration) : Type 0 where
+  pub state : stateOf s' table' ≡ foldl states.step (stateOf s table) new
+  pub sound : Sound s'
+  pub laid : (ends : ℕ → ℕ) → image' ≡ emitDeclarations ends (stateOf s table) new image
+
+-- the same whatever the table
+pub record Moved (s : State) (image : List ℕ) (s' : State) (image' : List ℕ) (new : List Declaration) : Type 0 where
+  pub at : (table : List ℕ) → Anyhow s table image s' table image' new
+
+-- failure 13 by the words in use, an array's size and element 0 of the next array; 12 or 13 by the place of the open sector too
+unfoldable pub spaceNumber : ℕ → ℕ → ℕ
+spaceNumber words array = whether (leb words array) (λ _. 0) (λ _. 13)
+
+unfoldable pub sectorNumber : ℕ → ℕ → ℕ → ℕ
+sectorNumber words sectors array = whether (leb words (512 * (sectors + 2))) (λ _. spaceNumber words array) (λ _. 12)

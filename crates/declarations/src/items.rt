@@ -1,0 +1,240 @@
+// Integers, constants and compconstants, at both levels.
+ghost use mathlib.Core.Path.{_≡_};
+ghost use mathlib.Core.List.{[], _∷_};
+ghost use Prim.Native.Nat.{_+_, _*_, _≤_};
+ghost use lib.ListN.{length};
+ghost use Rattle.source.specs.Kinds as kinds;
+ghost use Rattle.syntax.specs.Parse.{andThen, parted, expect as expectDef};
+ghost use Rattle.syntax.specs.Cells.{parseConstant};
+ghost use Rattle.syntax.specs.Limits.{nameLimit};
+ghost use Rattle.syntax.specs.Declarations.{itemLimit, parseItem, parseLocal, parseList};
+ghost use Rattle.symbols.specs.Packing.{unpack};
+ghost use Rattle.symbols.specs.Table.{heldBy, itemKind};
+ghost use Rattle.emitter.specs.Programs.{stored, itemValues};
+ghost use Rattle.cells.specs.Answers.{gotWith};
+ghost use Rattle.declarations.specs.Reads.{Reads};
+ghost use Rattle.declarations.specs.Scopes.{scopeOf, treeWord, treeItem, Room, Scoped};
+use crate::Item;
+use crate::ItemAnswer;
+use crate::ItemWord;
+use crate::Scope;
+use crate::ScopeAnswer;
+use crate::names::new_name;
+use cells::ConstantAnswer;
+use cells::Part;
+use cells::constant_at;
+use cells::expect;
+use emitter::store;
+use source::kind::COMMA;
+use source::kind::EQUAL;
+use source::kind::SEMICOLON;
+use source::token_at;
+use symbols::Kind;
+
+// At a declared name that takes a word: 11 where sector 0 has none left.
+pub fn name_limit(scope: Scope) -> u16
+    ensures { λ r. ⌜ r ≡ nameLimit (scopeOf scope []) ⌝ }
+{
+    if scope.level == 0 {
+        if 0o600 <= scope.words {
+            return 11;
+        }
+    }
+    0
+}
+
+fn item_limit(word: ItemWord, scope: Scope) -> u16
+    ensures { λ r. ⌜ r ≡ itemLimit (treeWord word) (scopeOf scope []) ⌝ }
+{
+    match word {
+        ItemWord::Integer => name_limit(scope),
+        ItemWord::Constant => name_limit(scope),
+        ItemWord::Compconstant => 0,
+    }
+}
+
+// `=` and a constant.
+fn value_at(source: &[u8], table: &[u16], names: usize, at: usize) -> ConstantAnswer
+    ensures { λ r. ⌜ gotWith (r .part) (r .value) ≡ andThen (expectDef kinds.equal (now (source .entry)) at) (λ _ n. parseConstant (now (source .entry)) (heldBy names (now (table .entry))) n) ⌝ }
+{
+    let part = expect(source, EQUAL, at);
+    let Part::Read { next } = part else {
+        return ConstantAnswer { part, value: 0 };
+    };
+    constant_at(source, table, names, next)
+}
+
+// A name and its item.
+fn item_at(source: &[u8], table: &[u16], scope: Scope, word: ItemWord, at: usize) -> ItemAnswer
+    requires { ⌜ 7 * scope .names ≤ length (now table) ⌝ }
+    ensures { λ r. ⌜ gotWith (r .part) (unpack (r .name), treeItem (r .item)) ≡ parseItem (now (source .entry)) (treeWord word) (scopeOf scope (now (table .entry))) at ⌝ }
+{
+    let named = new_name(source, table, scope, item_limit(word, scope), at);
+    let part = named.part;
+    let name = named.name;
+    let Part::Read { next } = part else {
+        return ItemAnswer {
+            part,
+            name,
+            item: Item::Integer,
+        };
+    };
+    match word {
+        ItemWord::Integer => ItemAnswer {
+            part,
+            name,
+            item: Item::Integer,
+        },
+        ItemWord::Constant => {
+            let valued = value_at(source, table, scope.names, next);
+            let part = valued.part;
+            ItemAnswer {
+                part,
+                name,
+                item: Item::Constant {
+                    value: valued.value,
+                },
+            }
+        }
+        ItemWord::Compconstant => {
+            let valued = value_at(source, table, scope.names, next);
+            let part = valued.part;
+            ItemAnswer {
+                part,
+                name,
+                item: Item::Compconstant {
+                    value: valued.value,
+                },
+            }
+        }
+    }
+}
+
+fn kind_of(item: Item, words: u16) -> Kind
+    ensures { λ r. ⌜ r ≡ itemKind words (treeItem item) ⌝ }
+{
+    match item {
+        Item::Integer => Kind::Integer { number: words },
+        Item::Constant { value } => Kind::Constant {
+            number: words,
+            value,
+        },
+        Item::Compconstant { value } => Kind::Compconstant { value },
+    }
+}
+
+// The item's word, if it takes one; and how many it takes.
+fn lay(image: &mut [u16], at: usize, item: Item) -> u16
+    ensures { λ r. ⌜ (now (image .exit) ≡ stored (now (image .entry)) at (itemValues (treeItem item))) × (r ≡ length (itemValues (treeItem item))) × (r ≤ 1) ⌝ }
+{
+    match item {
+        Item::Integer => {
+            store(image, at, 0);
+            1
+        }
+        Item::Constant { value } => {
+            store(image, at, value);
+            1
+        }
+        Item::Compconstant { value: _ } => 0,
+    }
+}
+
+// A name and its item, declared and laid.
+fn item(
+    source: &[u8],
+    table: &mut [u16],
+    image: &mut [u16],
+    scope: Scope,
+    word: ItemWord,
+    at: usize,
+) -> ScopeAnswer
+    requires { ⌜ Room scope (now table) ⌝ }
+    ensures { λ r. ⌜ Reads (λ one. Scoped scope (now (table .entry)) (now (image .entry)) (r .scope) (now (table .exit)) (now (image .exit)) (one ∷ [])) (r .part) (parseItem (now (source .entry)) (treeWord word) (scopeOf scope (now (table .entry))) at) ⌝ }
+{
+    let one = item_at(source, table, scope, word, at);
+    let part = one.part;
+    let Part::Read { next: _ } = part else {
+        return ScopeAnswer { part, scope };
+    };
+    let name = one.name;
+    let value = one.item;
+    let Scope {
+        names,
+        level,
+        words,
+        base,
+    } = scope;
+    let taken = lay(image, base as usize + words as usize, value);
+    symbols::declare(table, names, name, level, kind_of(value, words));
+    ScopeAnswer {
+        part,
+        scope: Scope {
+            names: names + 1,
+            level,
+            words: words + taken,
+            base,
+        },
+    }
+}
+
+// Items parted by commas, each declared before the next.
+fn item_list(
+    source: &[u8],
+    table: &mut [u16],
+    image: &mut [u16],
+    scope: Scope,
+    word: ItemWord,
+    at: usize,
+) -> ScopeAnswer
+    requires { ⌜ Room scope (now table) ⌝ }
+    ensures { λ r. ⌜ Reads (Scoped scope (now (table .entry)) (now (image .entry)) (r .scope) (now (table .exit)) (now (image .exit))) (r .part)
+        (parted (now (source .entry)) kinds.comma (parseLocal (now (source .entry)) (scopeOf scope (now (table .entry))) (treeWord word) []) (parseLocal (now (source .entry)) (scopeOf scope (now (table .entry))) (treeWord word)) at) ⌝ }
+{
+    let mut current = scope;
+    let mut from = at;
+    let mut left = source.len();
+    loop {
+        let one = item(source, table, image, current, word, from);
+        let part = one.part;
+        let Part::Read { next } = part else {
+            return one;
+        };
+        let t = token_at(source, next);
+        if left == 0 {
+            return one;
+        }
+        if t.kind != COMMA {
+            return one;
+        }
+        let after = one.scope;
+        current = after;
+        from = t.next;
+        left -= 1;
+    }
+}
+
+// The same, ended by `;`.
+pub fn items(
+    source: &[u8],
+    table: &mut [u16],
+    image: &mut [u16],
+    scope: Scope,
+    word: ItemWord,
+    at: usize,
+) -> ScopeAnswer
+    requires { ⌜ Room scope (now table) ⌝ }
+    ensures { λ r. ⌜ Reads (Scoped scope (now (table .entry)) (now (image .entry)) (r .scope) (now (table .exit)) (now (image .exit))) (r .part)
+        (parseList (now (source .entry)) (parseLocal (now (source .entry)) (scopeOf scope (now (table .entry))) (treeWord word)) [] at) ⌝ }
+{
+    let list = item_list(source, table, image, scope, word, at);
+    let part = list.part;
+    let Part::Read { next } = part else {
+        return list;
+    };
+    let after = list.scope;
+    ScopeAnswer {
+        part: expect(source, SEMICOLON, next),
+        scope: after,
+    }
+}

@@ -1,0 +1,49 @@
+// Failures 12 and 13.
+ghost use mathlib.Core.Path.{_≡_};
+ghost use Prim.Native.Nat.{ℕ, _+_, _≤_};
+ghost use lib.ListN.{length};
+ghost use Rattle.syntax.specs.Parse.{andThen, within, expect as expectDef};
+ghost use Rattle.syntax.specs.Parse.Got.{got};
+ghost use Rattle.emitter.specs.Emitted.{heldBy};
+ghost use Rattle.cells.specs.Answers.{partOf};
+ghost use Rattle.declarations.specs.States.{spaceNumber, sectorNumber};
+use crate::names::pass_at;
+use cells::Part;
+use cells::expect;
+use emitter::Output;
+use emitter::held_count;
+use source::Token;
+
+// 13 where code and pending pool, with an array of a size, reach above element 0 of the next array.
+pub fn space_limit(output: Output, size: u16, array: u16) -> u16
+    ensures { λ r. ⌜ r ≡ spaceNumber (output .code + length (heldBy (output .pool)) + size) array ⌝ }
+{
+    let pool = output.pool;
+    if output.code as usize + held_count(pool) + size as usize <= array as usize {
+        return 0;
+    }
+    13
+}
+
+// 12 where code and pending pool reach above their sector, the one after so many closed ones; then 13.
+pub fn sector_limit(output: Output, sectors: usize, array: u16) -> u16
+    requires { ⌜ sectors ≤ 30 ⌝ }
+    ensures { λ r. ⌜ r ≡ sectorNumber (output .code + length (heldBy (output .pool))) sectors array ⌝ }
+{
+    let pool = output.pool;
+    if output.code as usize + held_count(pool) <= 512 * (sectors + 2) {
+        return space_limit(output, 0, array);
+    }
+    12
+}
+
+// A limit judged at the last token of a part, and the token that must follow.
+pub fn judged(source: &[u8], last: Token, limit: u16, kind: u16) -> Part
+    ensures { λ r. ⌜ r ≡ partOf {A = ℕ} (within limit last (andThen (expectDef kind (now (source .entry)) (last .next)) (λ _ next. got 0 next))) ⌝ }
+{
+    let part = pass_at(last, limit);
+    let Part::Read { next } = part else {
+        return part;
+    };
+    expect(source, kind, next)
+}

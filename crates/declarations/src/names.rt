@@ -1,0 +1,84 @@
+// New names.
+ghost use mathlib.Core.Path.{_≡_};
+ghost use Prim.Native.Nat.{ℕ, _*_, _≤_};
+ghost use lib.ListN.{length};
+ghost use Rattle.source.specs.Tokens.{tokenAt};
+ghost use Rattle.syntax.specs.Parse.{within};
+ghost use Rattle.syntax.specs.Parse.Got.{got};
+ghost use Rattle.syntax.specs.Symbols.{sameLevel};
+ghost use Rattle.syntax.specs.Declarations.{isTaken, newName};
+ghost use Rattle.symbols.specs.Packing.{unpack};
+ghost use Rattle.symbols.specs.Table.{levelOf};
+ghost use Rattle.cells.specs.Answers.{partOf, gotWith};
+ghost use Rattle.declarations.specs.Scopes.{scopeOf, nameFailure};
+use crate::NameAnswer;
+use crate::Scope;
+use cells::Part;
+use cells::fail_at;
+use source::Token;
+use source::kind::NAME;
+use source::token_at;
+use symbols::Found;
+use symbols::Packed;
+
+// Goes on after a token if a failure's number is 0, else fails with it there.
+pub fn pass_at(t: Token, number: u16) -> Part
+    ensures { λ r. ⌜ r ≡ partOf {A = ℕ} (within number t (got 0 (t .next))) ⌝ }
+{
+    if number == 0 {
+        return Part::Read { next: t.next };
+    }
+    fail_at(t, number)
+}
+
+fn same_level(one: u16, other: u16) -> bool
+    ensures { λ r. ⌜ r ≡ sameLevel (levelOf one) (levelOf other) ⌝ }
+{
+    if one == 0 { other == 0 } else { other != 0 }
+}
+
+// Whether a name is declared at the scope's level, or X.
+fn is_taken(table: &[u16], scope: Scope, name: Packed) -> bool
+    ensures { λ r. ⌜ r ≡ isTaken (scopeOf scope (now (table .entry))) (unpack name) ⌝ }
+{
+    if symbols::is_x(name) {
+        return true;
+    }
+    let found = symbols::find(table, scope.names, name);
+    match found {
+        Found::At { level, kind: _ } => same_level(level, scope.level),
+        Found::Nothing => false,
+    }
+}
+
+// A new name's failure, with the limit of its word, or 0.
+fn name_failure(source: &[u8], table: &[u16], scope: Scope, limit: u16, at: usize) -> u16
+    requires { ⌜ 7 * scope .names ≤ length (now table) ⌝ }
+    ensures { λ r. ⌜ r ≡ nameFailure (now (source .entry)) (scopeOf scope (now (table .entry))) limit (tokenAt (now (source .entry)) at) ⌝ }
+{
+    let t = token_at(source, at);
+    if t.kind != NAME {
+        return 6;
+    }
+    if is_taken(table, scope, symbols::pack(source, t)) {
+        return 8;
+    }
+    if 512 <= scope.names {
+        return 10;
+    }
+    limit
+}
+
+// A new name, with the limit of its word.
+pub fn new_name(source: &[u8], table: &[u16], scope: Scope, limit: u16, at: usize) -> NameAnswer
+    requires { ⌜ 7 * scope .names ≤ length (now table) ⌝ }
+    ensures { λ r. ⌜ gotWith (r .part) (unpack (r .name)) ≡ newName (now (source .entry)) (scopeOf scope (now (table .entry))) limit (tokenAt (now (source .entry)) at) ⌝ }
+{
+    let t = token_at(source, at);
+    let name = symbols::pack(source, t);
+    let number = name_failure(source, table, scope, limit, at);
+    NameAnswer {
+        part: pass_at(t, number),
+        name,
+    }
+}

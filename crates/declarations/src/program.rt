@@ -1,0 +1,243 @@
+// Declarations and the main body: a program.
+ghost use mathlib.Core.Path.{_≡_};
+ghost use Prim.Native.Nat.{_≤_};
+ghost use lib.ListN.{length};
+ghost use Rattle.syntax.specs.Declarations.{parseDeclarations};
+ghost use Rattle.declarations.specs.Reads.{Reads};
+ghost use Rattle.declarations.specs.Scopes.{treeWord};
+ghost use Rattle.declarations.specs.States.{stateOf, Sound, Declared, Anyhow};
+ghost use Rattle.declarations.specs.Forms as forms;
+ghost use Rattle.declarations.specs.Procedures.{mainIn, Finished, Starts, programIn, Compiled};
+use crate::Answer;
+use crate::Ends;
+use crate::ItemWord;
+use crate::ProgramAnswer;
+use crate::Scope;
+use crate::State;
+use crate::WordFound;
+use crate::arrays::arrays;
+use crate::items::items;
+use crate::procedures::accumulator;
+use crate::procedures::end_of;
+use crate::procedures::ended;
+use crate::procedures::item_word;
+use crate::procedures::procedure;
+use crate::sectors::next_sector;
+use crate::sectors::store_pool;
+use cells::Part;
+use cells::expect;
+use emitter::Context;
+use emitter::Output;
+use emitter::emit_generic;
+use emitter::empty_pool;
+use instruction::slot::HLT;
+use source::Token;
+use source::kind::ACCUMULATOR;
+use source::kind::ARRAY;
+use source::kind::BEGIN;
+use source::kind::END_OF_SOURCE;
+use source::kind::INTEGER;
+use source::kind::NEXTSECTOR;
+use source::kind::PROCEDURE;
+use source::token_at;
+use statements::statements;
+
+// A list of global items.
+fn globals(
+    source: &[u8],
+    table: &mut [u16],
+    image: &mut [u16],
+    state: State,
+    word: ItemWord,
+    at: usize,
+) -> Answer
+    requires { ⌜ Sound state × (3584 ≤ length (now table)) ⌝ }
+    ensures { λ r. ⌜ Reads (Anyhow state (now (table .entry)) (now (image .entry)) (r .state) (now (table .exit)) (now (image .exit))) (r .part) (forms.itemsIn (now (source .entry)) (treeWord word) (stateOf state (now (table .entry))) at) ⌝ }
+{
+    let scope = Scope {
+        names: state.names,
+        level: 0,
+        words: state.words,
+        base: 0o200,
+    };
+    let list = items(source, table, image, scope, word, at);
+    let part = list.part;
+    let after = list.scope;
+    let output = state.output;
+    let ends = state.ends;
+    Answer {
+        part,
+        state: State {
+            names: after.names,
+            words: after.words,
+            output,
+            ends,
+            array: state.array,
+        },
+    }
+}
+
+// Whether a declaration begins with a token of a kind.
+fn begins(kind: u16) -> bool
+    ensures { λ r. ⌜ r ≡ forms.begins kind ⌝ }
+{
+    INTEGER <= kind && kind <= ACCUMULATOR
+}
+
+// The declaration that a token begins.
+fn declaration(
+    source: &[u8],
+    table: &mut [u16],
+    image: &mut [u16],
+    plan: Ends,
+    state: State,
+    t: Token,
+) -> Answer
+    requires { ⌜ Sound state × (3584 ≤ length (now table)) ⌝ }
+    ensures { λ r. ⌜ Reads (Declared plan state (now (table .entry)) (now (image .entry)) (r .state) (now (table .exit)) (now (image .exit))) (r .part) (forms.declarationIn (now (source .entry)) (stateOf state (now (table .entry))) t) ⌝ }
+{
+    let kind = t.kind;
+    let found = item_word(kind);
+    if let WordFound::Word { word } = found {
+        return globals(source, table, image, state, word, t.next);
+    }
+    if kind == ARRAY {
+        return arrays(source, table, image, state, t.next);
+    }
+    if kind == NEXTSECTOR {
+        return next_sector(source, image, state, t);
+    }
+    if kind == PROCEDURE {
+        return procedure(source, table, image, plan, state, false, t.next);
+    }
+    accumulator(source, table, image, plan, state, t.next)
+}
+
+// Any declarations, from the start.
+fn declarations(
+    source: &[u8],
+    table: &mut [u16],
+    image: &mut [u16],
+    plan: Ends,
+    state: State,
+    at: usize,
+) -> Answer
+    requires { ⌜ Starts state × (3584 ≤ length (now table)) ⌝ }
+    ensures { λ r. ⌜ Reads (Declared plan state (now (table .entry)) (now (image .entry)) (r .state) (now (table .exit)) (now (image .exit))) (r .part) (parseDeclarations (now (source .entry)) at) ⌝ }
+{
+    let mut current = state;
+    let mut from = at;
+    let mut left = source.len();
+    loop {
+        let t = token_at(source, from);
+        let kind = t.kind;
+        if left == 0 {
+            return Answer {
+                part: Part::Read { next: from },
+                state: current,
+            };
+        }
+        if !begins(kind) {
+            return Answer {
+                part: Part::Read { next: from },
+                state: current,
+            };
+        }
+        let one = declaration(source, table, image, plan, current, t);
+        let part = one.part;
+        let Part::Read { next } = part else {
+            return one;
+        };
+        let after = one.state;
+        current = after;
+        from = next;
+        left -= 1;
+    }
+}
+
+// The main body, and the last pool after it.
+fn main_body(
+    source: &[u8],
+    table: &[u16],
+    image: &mut [u16],
+    plan: Ends,
+    state: State,
+    at: usize,
+) -> expressions::Answer
+    requires { ⌜ Sound state × (3584 ≤ length (now table)) ⌝ }
+    ensures { λ r. ⌜ Reads (Finished plan state (now (table .entry)) (now (image .entry)) (r .output) (now (image .exit))) (r .part) (mainIn (now (source .entry)) (stateOf state (now (table .entry))) at) ⌝ }
+{
+    let output = state.output;
+    let ends = state.ends;
+    let sectors = ends.count;
+    let context = Context {
+        names: state.names,
+        pool: end_of(plan, ends),
+        locals: output.code,
+    };
+    let inside = statements(source, table, image, context, at, output);
+    let part = inside.part;
+    let after = inside.output;
+    let Part::Read { next } = part else {
+        return inside;
+    };
+    let last = emit_generic(image, after, HLT);
+    let part = ended(source, last, sectors, state.array, END_OF_SOURCE, next);
+    let Part::Read { next: _ } = part else {
+        return expressions::Answer { part, output: last };
+    };
+    let pool = last.pool;
+    store_pool(image, last.code, pool);
+    expressions::Answer { part, output: last }
+}
+
+fn start_state() -> State
+    ensures { λ r. ⌜ Starts r ⌝ }
+{
+    let output = Output {
+        code: 0o1000,
+        pool: empty_pool(),
+    };
+    let ends = Ends {
+        codes: [0u16; 32],
+        count: 0,
+    };
+    State {
+        names: 0,
+        words: 0,
+        output,
+        ends,
+        array: 16383,
+    }
+}
+
+// A program whose length was tested: `.BEGIN`, declarations, the main body. The pools' addresses are the plan's.
+pub fn program(source: &[u8], table: &mut [u16], image: &mut [u16], plan: Ends) -> ProgramAnswer
+    requires { ⌜ 3584 ≤ length (now table) ⌝ }
+    ensures { λ r. ⌜ Reads (Compiled plan (now (image .entry)) (r .state) (r .end) (now (table .exit)) (now (image .exit))) (r .part) (programIn (now (source .entry))) ⌝ }
+{
+    let state = start_state();
+    let end = state.output;
+    let part = expect(source, BEGIN, 0);
+    let Part::Read { next } = part else {
+        return ProgramAnswer { part, state, end };
+    };
+    let all = declarations(source, table, image, plan, state, next);
+    let part = all.part;
+    let after = all.state;
+    let Part::Read { next } = part else {
+        return ProgramAnswer {
+            part,
+            state: after,
+            end,
+        };
+    };
+    let main = main_body(source, table, image, plan, after, next);
+    let part = main.part;
+    let end = main.output;
+    ProgramAnswer {
+        part,
+        state: after,
+        end,
+    }
+}

@@ -1,0 +1,106 @@
+// `.NEXTSECTOR`.
+ghost use mathlib.Core.Path.{_≡_};
+ghost use mathlib.Core.List.{[], _∷_, _++_};
+ghost use Prim.Native.Nat.{_+_, _≤_};
+ghost use Rattle.syntax.specs.Tree.{Declaration};
+ghost use Rattle.syntax.specs.Limits.{sectorLimit, followLimit};
+ghost use Rattle.emitter.specs.Emitted.{heldBy};
+ghost use Rattle.emitter.specs.Programs.{stored};
+ghost use Rattle.declarations.specs.Reads.{Reads};
+ghost use Rattle.declarations.specs.States.{endsOf, stateOf, Sound, Moved};
+ghost use Rattle.declarations.specs.Forms.{judgedIn};
+use crate::Answer;
+use crate::Ends;
+use crate::State;
+use crate::limits::judged;
+use crate::limits::sector_limit;
+use cells::Part;
+use emitter::Output;
+use emitter::Pool;
+use emitter::empty_pool;
+use emitter::held_count;
+use emitter::store;
+use source::Token;
+use source::kind::SEMICOLON;
+
+// A pool's words from an address on.
+pub fn store_pool(image: &mut [u16], at: u16, pool: Pool)
+    ensures { λ _. ⌜ now (image .exit) ≡ stored (now (image .entry)) at (heldBy pool) ⌝ }
+{
+    let words = pool.words;
+    let count = held_count(pool);
+    let mut i = 0;
+    while i < count {
+        store(image, at as usize + i, words[i]);
+        i += 1;
+    }
+}
+
+// One closed sector's code end more.
+pub fn with_end(ends: Ends, code: u16) -> Ends
+    requires { ⌜ ends .count ≤ 30 ⌝ }
+    ensures { λ r. ⌜ (endsOf r ≡ endsOf ends ++ (code ∷ [])) × (r .count ≡ ends .count + 1) ⌝ }
+{
+    let count = ends.count;
+    let mut next = ends;
+    next.codes[count] = code;
+    next.count = count + 1;
+    next
+}
+
+// 12 or 13, or 13 where no sector follows.
+fn next_limit(state: State) -> u16
+    requires { ⌜ Sound state ⌝ }
+    ensures { λ r. ⌜ r ≡ followLimit (stateOf state []) (sectorLimit (stateOf state [])) ⌝ }
+{
+    let output = state.output;
+    let sectors = state.ends.count;
+    let limit = sector_limit(output, sectors, state.array);
+    if limit != 0 {
+        return limit;
+    }
+    if sectors < 30 {
+        return 0;
+    }
+    13
+}
+
+// The open sector closed, its pool after its code.
+fn close(image: &mut [u16], state: State) -> State
+    requires { ⌜ Sound state × (state .ends .count + 1 ≤ 30) ⌝ }
+    ensures { λ r. ⌜ Moved state (now (image .entry)) r (now (image .exit)) (Declaration.nextSector ∷ []) ⌝ }
+{
+    let output = state.output;
+    let pool = output.pool;
+    let code = output.code;
+    store_pool(image, code, pool);
+    let ends = state.ends;
+    let count = ends.count;
+    let closed = with_end(ends, code);
+    let empty = Output {
+        code: 512 * (count as u16 + 2),
+        pool: empty_pool(),
+    };
+    State {
+        names: state.names,
+        words: state.words,
+        output: empty,
+        ends: closed,
+        array: state.array,
+    }
+}
+
+// `.NEXTSECTOR`, judged, and `;`.
+pub fn next_sector(source: &[u8], image: &mut [u16], state: State, t: Token) -> Answer
+    requires { ⌜ Sound state ⌝ }
+    ensures { λ r. ⌜ Reads (Moved state (now (image .entry)) (r .state) (now (image .exit))) (r .part) (judgedIn (now (source .entry)) (stateOf state []) Declaration.nextSector t) ⌝ }
+{
+    let part = judged(source, t, next_limit(state), SEMICOLON);
+    let Part::Read { next: _ } = part else {
+        return Answer { part, state };
+    };
+    Answer {
+        part,
+        state: close(image, state),
+    }
+}

@@ -1,0 +1,23 @@
+-- `emitter::emit_through` meets its contract. Assumes nothing.
+use borrow.Author.Needs.{needs}
+use Rattle.emitter.proofs.emit_through.Statement.{statement}
+use Rattle.emitter.proofs.emit_through.Tie as tie
+
+add-reference : tie.Need-add-reference
+add-reference c = search needs
+
+reference-requires : tie.Need-reference-requires
+reference-requires c κs = search needs
+
+emit-word-requires : tie.Need-emit-word-requires
+emit-word-requires c κs = search needs
+
+same-length : tie.Need-same-length
+same-length c = search needs
+
+returns : tie.Need-returns
+returns c = rw (← (c .before .before .before .reference .ensures)) (c .before .before .emit-word .ensures)
+
+pub emit-through-spec : {M : Type 1} → statement M
+emit-through-spec =
+    tie.close (tie.spec add-reference reference-requires emit-word-requires same-length returns)

@@ -1,0 +1,28 @@
+-- `emitter::with_operand` meets its contract, case by case. Assumes nothing.
+use Rattle.operands.specs.Trees.{treeOperand}
+use Rattle.syntax.specs.Pool.{literalOf}
+use Rattle.emitter.specs.Emitted.{withLiterals}
+use borrow.Author.Needs.{needs}
+use Rattle.emitter.proofs.with_operand.Statement.{statement}
+use Rattle.emitter.proofs.with_operand.Tie as tie
+
+enum-told : tie.Need-enum-told
+enum-told c = search needs
+
+enum-known-operand : tie.Need-enum-known-operand
+enum-known-operand c = search needs
+
+with-literal-requires : tie.Need-with-literal-requires
+with-literal-requires c κs = search needs
+
+returns : tie.Need-returns
+unfolding withLiterals literalOf treeOperand
+returns c = rw (c .enum-told .given .1)
+
+returns-2 : tie.Need-returns-2
+unfolding withLiterals literalOf treeOperand
+returns-2 c = rw (c .before .before .operand .given .1) (c .with-literal .ensures)
+
+pub with-operand-spec : {M : Type 1} → statement M
+with-operand-spec =
+    tie.close (tie.spec enum-told enum-known-operand with-literal-requires returns returns-2)

@@ -1,0 +1,33 @@
+-- What emission promises of a part of the source. Assumes nothing.
+use Prim.Native.Nat.{ℕ, _+_, _≤_, _<_}
+use mathlib.Core.Path.{_≡_}
+use mathlib.Core.Bool.{false}
+use mathlib.Core.List.{List, _∷_}
+use lib.ListN.{length, set}
+use Rattle.instruction.specs.Code.{JMP}
+use Rattle.syntax.specs.Emission.{Sym, _⧺_}
+use Rattle.emission.specs.Map.{reference}
+use Rattle.emitter.specs.Emitted.{Emitted, lastAddress, Bases, emitAll}
+
+-- the words of a part, by the address of the first
+abbrev pub Code : Type 0
+Code = ℕ → List Sym
+
+-- from a to b the words w are emitted. Where b is at the last address, so many words or more were to be emitted, and nothing is said of the image: a sector that is judged then fails
+pub record Lays (f : Bases) (a b : Emitted) (w : Code) : Type 0 where
+  pub grows : a .code ≤ b .code
+  pub fits : b .code < lastAddress → b ≡ emitAll f a (w (a .code))
+  pub counts : b .code < lastAddress → b .code ≡ a .code + length (w (a .code))
+  pub over : lastAddress ≤ b .code → lastAddress ≤ a .code + length (w (a .code))
+
+-- words with one forward jump, whose target is known later: until then it is 0, and `hole` is its address
+pub record Holed (f : Bases) (a b : Emitted) (w : ℕ → ℕ → List Sym) (hole : ℕ) : Type 0 where
+  pub before : Code
+  pub rest : Code
+  pub cut : (at z : ℕ) → w at z ≡ before at ⧺ Sym.jump z ∷ rest at
+  pub lays : Lays f a b (λ at. w at 0)
+  pub place : b .code < lastAddress → hole ≡ a .code + length (before (a .code))
+
+-- the jump filled in
+abbrev pub filled : List ℕ → ℕ → ℕ → List ℕ
+filled image hole z = set image hole (reference JMP false z)

@@ -1,0 +1,285 @@
+// Emission: words into the lent image, the literal pool by value.
+ghost use mathlib.Core.Path.{_≡_};
+ghost use mathlib.Core.Bool.{true, false};
+ghost use mathlib.Core.List.{[]};
+ghost use Prim.Native.Nat.{_+_, _≤_};
+ghost use lib.ListN.{length, getD, set};
+ghost use Rattle.instruction.specs.Code as codes;
+ghost use Rattle.instruction.specs.Table.{tableOf};
+ghost use Rattle.instruction.specs.Encode.{shiftWord};
+ghost use Rattle.operands.specs.Trees.{treeOperand, treeCell};
+ghost use Rattle.syntax.specs.Emission.{Sym, cellWords};
+ghost use Rattle.syntax.specs.Pool.{indexOf, literalOf};
+ghost use Rattle.emission.specs.Map as map;
+ghost use Rattle.emitter.specs.Emitted.{heldBy, emittedBy, nextAddress, withWord, withLiteral, withLiterals, basesOf, frameOf, emitWord, emitAll};
+ghost use Rattle.emitter.specs.Lays.{filled};
+use instruction::code::JMP;
+use instruction::code::LDX;
+use operands::Array;
+use operands::Cell;
+use operands::Id;
+use operands::Operand;
+use operands::Subscript;
+
+// The last address that 16 bits hold, far above the memory.
+const LAST_ADDRESS: u16 = 65535;
+
+// As many words as a sector has: no sector holds a longer pool.
+const POOL_WORDS: usize = 512;
+
+// The literal pool of the open sector, in order of first use; the first `count` words count.
+pub struct Pool {
+    pub words: [u16; POOL_WORDS],
+    pub count: usize,
+}
+
+// What is emitted so far, but for the image: the address of the next word, and the pool.
+pub struct Output {
+    pub code: u16,
+    pub pool: Pool,
+}
+
+// What a body is compiled under: the count of live names, the address of its sector's pool, and of its procedure's first local.
+pub struct Context {
+    pub names: usize,
+    pub pool: u16,
+    pub locals: u16,
+}
+
+pub fn empty_pool() -> Pool
+    ensures { λ r. ⌜ heldBy r ≡ [] ⌝ }
+{
+    Pool {
+        words: [0u16; POOL_WORDS],
+        count: 0,
+    }
+}
+
+// How many words a pool holds: all, where its count is above them.
+pub fn held_count(pool: Pool) -> usize
+    ensures { λ r. ⌜ (r ≡ length (heldBy pool)) × (r ≤ 512) ⌝ }
+{
+    let count = pool.count;
+    if POOL_WORDS < count {
+        POOL_WORDS
+    } else {
+        count
+    }
+}
+
+// The place of a value in a pool, or how many words it holds.
+pub fn index_of(pool: Pool, value: u16) -> usize
+    ensures { λ r. ⌜ (r ≡ indexOf (heldBy pool) value) × (r ≤ 512) ⌝ }
+{
+    let words = pool.words;
+    let count = held_count(pool);
+    let mut i = 0;
+    while i < count {
+        if words[i] == value {
+            return i;
+        }
+        i += 1;
+    }
+    i
+}
+
+// The pool with a value, once. A full pool stays as it is.
+pub fn with_literal(pool: Pool, value: u16) -> Pool
+    ensures { λ r. ⌜ heldBy r ≡ withLiteral (heldBy pool) value ⌝ }
+{
+    let count = held_count(pool);
+    if index_of(pool, value) < count {
+        return pool;
+    }
+    if count < POOL_WORDS {
+        let mut next = pool;
+        next.words[count] = value;
+        next.count = count + 1;
+        return next;
+    }
+    pool
+}
+
+// The address after another, up to the last.
+fn next_address(at: u16) -> u16
+    ensures { λ r. ⌜ r ≡ nextAddress at ⌝ }
+{
+    if at < LAST_ADDRESS { at + 1 } else { at }
+}
+
+// Outside of the image nothing is stored.
+pub fn store(image: &mut [u16], at: usize, word: u16)
+    ensures { λ _. ⌜ now (image .exit) ≡ set (now (image .entry)) at word ⌝ }
+{
+    if at < image.len() {
+        image[at] = word;
+    }
+}
+
+// A word at the next address.
+pub fn emit_word(image: &mut [u16], output: Output, word: u16) -> Output
+    ensures { λ r. ⌜ emittedBy r (now (image .exit)) ≡ withWord (emittedBy output (now (image .entry))) word ⌝ }
+{
+    let at = output.code;
+    let pool = output.pool;
+    store(image, at as usize, word);
+    Output {
+        code: next_address(at),
+        pool,
+    }
+}
+
+// The word of an order on an address: LDX has its tag set, and an address outside of sector 0 its sector bit.
+pub fn reference(code: u16, indirect: bool, address: u32) -> u16
+    ensures { λ r. ⌜ r ≡ map.reference code indirect address ⌝ }
+{
+    instruction::encode_memory(
+        code,
+        indirect,
+        code == LDX,
+        512 <= address,
+        (address % 512) as u16,
+    )
+}
+
+// The word of a generic instruction; 0 for a slot outside of the table.
+pub fn generic_word(slot: usize) -> u16
+    ensures { λ r. ⌜ r ≡ getD tableOf slot 0 ⌝ }
+{
+    let table = instruction::table();
+    if slot < 64 { table[slot] } else { 0 }
+}
+
+pub fn emit_generic(image: &mut [u16], output: Output, slot: usize) -> Output
+    ensures { λ r. ⌜ emittedBy r (now (image .exit)) ≡ withWord (emittedBy output (now (image .entry))) (getD tableOf slot 0) ⌝ }
+{
+    emit_word(image, output, generic_word(slot))
+}
+
+pub fn emit_shift(image: &mut [u16], output: Output, kind: u16, amount: u16) -> Output
+    ensures { λ r. ⌜ emittedBy r (now (image .exit)) ≡ withWord (emittedBy output (now (image .entry))) (shiftWord kind amount) ⌝ }
+{
+    emit_word(image, output, instruction::encode_shift(kind, amount))
+}
+
+// An order that goes indirectly through a global word.
+pub fn emit_through(image: &mut [u16], output: Output, code: u16, number: u16) -> Output
+    ensures { λ r. ⌜ emittedBy r (now (image .exit)) ≡ withWord (emittedBy output (now (image .entry))) (map.reference code true (0o200 + number)) ⌝ }
+{
+    emit_word(image, output, reference(code, true, 0o200 + number as u32))
+}
+
+// A jump to a code address.
+pub fn emit_jump(image: &mut [u16], output: Output, target: u16) -> Output
+    ensures { λ r. ⌜ emittedBy r (now (image .exit)) ≡ withWord (emittedBy output (now (image .entry))) (map.reference codes.JMP false target) ⌝ }
+{
+    emit_word(image, output, reference(JMP, false, target as u32))
+}
+
+// A return through a link.
+pub fn emit_return(image: &mut [u16], output: Output, link: u16) -> Output
+    ensures { λ r. ⌜ emittedBy r (now (image .exit)) ≡ withWord (emittedBy output (now (image .entry))) (map.reference codes.JMP true link) ⌝ }
+{
+    emit_word(image, output, reference(JMP, true, link as u32))
+}
+
+// A jump that was emitted before its target was known.
+pub fn fill_jump(image: &mut [u16], hole: u16, target: u16)
+    ensures { λ _. ⌜ now (image .exit) ≡ filled (now (image .entry)) hole target ⌝ }
+{
+    store(image, hole as usize, reference(JMP, false, target as u32));
+}
+
+// The address of an integer or a named constant.
+fn id_address(context: Context, id: Id) -> u32
+    ensures { λ r. ⌜ r ≡ map.addressOf (frameOf (basesOf context) []) (treeOperand (Operand.Named id)) ⌝ }
+{
+    match id {
+        Id::X => 0,
+        Id::Global { number } => 0o200 + number as u32,
+        Id::Local {
+            procedure: _,
+            number,
+        } => context.locals as u32 + number as u32,
+    }
+}
+
+// The address of an operand, with its literal in the pool.
+fn address_of(context: Context, pool: Pool, operand: Operand) -> u32
+    ensures { λ r. ⌜ r ≡ map.addressOf (frameOf (basesOf context) (heldBy pool)) (treeOperand operand) ⌝ }
+{
+    match operand {
+        Operand::Named { id } => id_address(context, id),
+        Operand::Literal { value } => context.pool as u32 + index_of(pool, value) as u32,
+    }
+}
+
+// The pool with an operand's literal, if it is one.
+fn with_operand(pool: Pool, operand: Operand) -> Pool
+    ensures { λ r. ⌜ heldBy r ≡ withLiterals (heldBy pool) (literalOf (Sym.memory 0 (treeOperand operand)) []) ⌝ }
+{
+    match operand {
+        Operand::Named { id: _ } => pool,
+        Operand::Literal { value } => with_literal(pool, value),
+    }
+}
+
+// An order on an integer, a constant or a literal.
+pub fn emit_memory(
+    image: &mut [u16],
+    context: Context,
+    output: Output,
+    code: u16,
+    operand: Operand,
+) -> Output
+    ensures { λ r. ⌜ emittedBy r (now (image .exit)) ≡ emitWord (basesOf context) (emittedBy output (now (image .entry))) (Sym.memory code (treeOperand operand)) ⌝ }
+{
+    let at = output.code;
+    let held = output.pool;
+    let pool = with_operand(held, operand);
+    let address = address_of(context, pool, operand);
+    emit_word(
+        image,
+        Output { code: at, pool },
+        reference(code, false, address),
+    )
+}
+
+// An order on an array element: its subscript to X, unless it is there.
+fn emit_item(
+    image: &mut [u16],
+    context: Context,
+    output: Output,
+    code: u16,
+    array: Array,
+    subscript: Subscript,
+) -> Output
+    ensures { λ r. ⌜ emittedBy r (now (image .exit)) ≡ emitAll (basesOf context) (emittedBy output (now (image .entry))) (cellWords code (treeCell (Cell.Item array subscript))) ⌝ }
+{
+    let number = array.number;
+    match subscript {
+        Subscript::By { operand } => {
+            let indexed = emit_memory(image, context, output, LDX, operand);
+            emit_through(image, indexed, code, number)
+        }
+        Subscript::Hash => emit_through(image, output, code, number),
+    }
+}
+
+// An order on a cell.
+pub fn emit_cell(
+    image: &mut [u16],
+    context: Context,
+    output: Output,
+    code: u16,
+    cell: Cell,
+) -> Output
+    ensures { λ r. ⌜ emittedBy r (now (image .exit)) ≡ emitAll (basesOf context) (emittedBy output (now (image .entry))) (cellWords code (treeCell cell)) ⌝ }
+{
+    match cell {
+        Cell::Plain { operand } => emit_memory(image, context, output, code, operand),
+        Cell::Item { array, subscript } => {
+            emit_item(image, context, output, code, array, subscript)
+        }
+    }
+}

@@ -1,0 +1,21 @@
+-- `relation::emit_at_most` meets its contract. Assumes nothing.
+use Rattle.expressions.proofs.Relations.{at-most}
+use borrow.Author.Needs.{needs}
+use Rattle.expressions.proofs.relation.emit_at_most.Statement.{statement}
+use Rattle.expressions.proofs.relation.emit_at_most.Tie as tie
+
+emit-hole-requires : tie.Need-emit-hole-requires
+emit-hole-requires c κs = search needs
+
+emit-generic-requires : tie.Need-emit-generic-requires
+emit-generic-requires c κs = search needs
+
+same-length : tie.Need-same-length
+same-length c = search needs
+
+returns : tie.Need-returns
+returns c = at-most (c .before .before .before .before .before .before .before .emit-hole .ensures) (c .before .before .emit-generic .ensures)
+
+pub emit-at-most-spec : {M : Type 1} → statement M
+emit-at-most-spec =
+    tie.close (tie.spec emit-hole-requires emit-generic-requires same-length returns)

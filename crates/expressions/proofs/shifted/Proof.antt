@@ -1,0 +1,41 @@
+-- `shifted` meets its contract. Assumes nothing.
+use mathlib.Core.Path.{refl}
+use Rattle.expressions.specs.Compiles.{Compiles}
+use Rattle.cells.proofs.Laws.{got-read, got-failed}
+use Rattle.expressions.proofs.Leaves.{shift}
+use borrow.Author.Needs.{needs}
+use Rattle.expressions.proofs.shifted.Statement.{statement}
+use Rattle.expressions.proofs.shifted.Tie as tie
+
+amount-at-requires : tie.Need-amount-at-requires
+amount-at-requires c κs = search needs
+
+enum-known-part : tie.Need-enum-known-part
+enum-known-part c = search needs
+
+enum-told : tie.Need-enum-told
+enum-told c = search needs
+
+returns : tie.Need-returns
+returns c = Compiles.fails (got-failed _ (c .before .before .amount-at .ensures) (c .enum-told .given .1)) (c .enum-told .given .1)
+
+emit-shift-requires : tie.Need-emit-shift-requires
+emit-shift-requires c κs = search needs
+
+same-length : tie.Need-same-length
+same-length c = search needs
+
+returns-2 : tie.Need-returns-2
+returns-2 c = Compiles.read (got-read (c .before .before .before .before .before .before .before .amount-at .ensures) (c .before .before .before .before .before .part .given .1)) refl (shift _ _ _ (c .before .before .emit-shift .ensures))
+
+pub shifted-spec : {M : Type 1} → statement M
+shifted-spec =
+    tie.close
+    (tie.spec
+    amount-at-requires
+    enum-known-part
+    enum-told
+    returns
+    emit-shift-requires
+    same-length
+    returns-2)

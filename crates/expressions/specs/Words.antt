@@ -1,0 +1,44 @@
+-- The words that stand for an instruction, as the code looks them up. Assumes nothing.
+use Prim.Native.Nat.{ℕ, suc, _+_, _-_, _%_}
+use mathlib.Core.List.{List, [], _∷_}
+use lib.Dec.{eqb, ltb}
+use lib.ListN.{getD}
+use Rattle.source.specs.Bytes.{whether, find, given}
+use Rattle.source.specs.Kinds
+use Rattle.instruction.specs.Slot.{TCA, SSP, SSM, CHS, CSA, CMA, ICL, CAL, ICA, ICR, CAR, AOA, ACA}
+use Rattle.syntax.specs.Tree.{Unary}
+
+-- 1 more than the number of a kind's row, or 0 where there is none
+unfoldable pub numberIn : {A : Type 0} → List (ℕ × A) → (A → ℕ) → ℕ → ℕ
+numberIn table number kind = given (find (eqb kind) table) (λ row. suc (number (row .1))) (λ _. 0)
+
+-- the last instruction of a unary word; only `.ABS` has another, SPL, before it
+unfoldable pub lastSlot : Unary → ℕ
+lastSlot Unary.addc = ACA
+lastSlot Unary.inc = AOA
+lastSlot Unary.neg = TCA
+lastSlot Unary.ssp = SSP
+lastSlot Unary.ssm = SSM
+lastSlot Unary.chs = CHS
+lastSlot Unary.csa = CSA
+lastSlot Unary.not = CMA
+lastSlot Unary.icleft = ICL
+lastSlot Unary.cleft = CAL
+lastSlot Unary.swop = ICA
+lastSlot Unary.icright = ICR
+lastSlot Unary.cright = CAR
+lastSlot Unary.abs = TCA
+
+-- the code's table
+abbrev pub wordTable : List ℕ
+wordTable =
+    56 ∷ 0 ∷ 0 ∷ 34 ∷ 44 ∷ 7 ∷ 1 ∷ 9 ∷ 23 ∷ 18 ∷ 30 ∷ 42 ∷ 46 ∷ 14 ∷ 28 ∷ 19 ∷ 7 ∷ 260 ∷ 261 ∷ 262 ∷ 268 ∷ 269 ∷ 270 ∷ 8 ∷ 39 ∷ 55 ∷ 33 ∷ 17 ∷ 54 ∷ 38 ∷ 27 ∷ 37 ∷ 10 ∷ 61 ∷ 58 ∷ 43 ∷ []
+
+-- its rows between two kinds
+unfoldable pub ranged : ℕ → ℕ → ℕ → ℕ
+ranged low high kind =
+    whether (ltb kind low) (λ _. 0) λ _.
+    whether (ltb high kind) (λ _. 0) λ _.
+    whether (ltb kind Kinds.ZERO) (λ _. 0) λ _.
+    whether (ltb Kinds.NOKEY kind) (λ _. 0) λ _.
+    1 + getD wordTable (kind - Kinds.ZERO) 0 % 512

@@ -1,0 +1,520 @@
+// Expressions and conditions: parsed and emitted in one go. Past the end of the image nothing is stored, so a first pass runs on an empty one.
+use cells::CellStart;
+use cells::Part;
+use cells::TermStart;
+use cells::amount_at;
+use cells::cell_at;
+use cells::cell_from;
+use cells::expect;
+use cells::fail_at;
+use cells::lone_cell_at;
+use cells::term_start_at;
+use cells::too_deep_at;
+use emitter::Context;
+use emitter::Output;
+use emitter::emit_cell;
+use emitter::emit_generic;
+use emitter::emit_jump;
+use emitter::emit_shift;
+use emitter::emit_through;
+use emitter::fill_jump;
+use instruction::code;
+use instruction::slot;
+use source::Token;
+use source::kind;
+use source::operator_at;
+use source::token_at;
+ghost use mathlib.Core.Path.{_≡_};
+ghost use mathlib.Core.List.{[], _∷_};
+ghost use Rattle.source.specs.Bytes.{between};
+ghost use Rattle.source.specs.Tokens.{tokenAt};
+ghost use Rattle.instruction.specs.Code.{LDA};
+ghost use Rattle.syntax.specs.Tree.{Operation, Term};
+ghost use Rattle.syntax.specs.Emission.{Sym, cellWords, exprWords, termWords, condWords, operationWords, operationsWords};
+ghost use Rattle.syntax.specs.Cells.{parseInRange, cellFrom, parseCell};
+ghost use Rattle.syntax.specs.Expressions.{termFrom, parseBracketed, parseCall, parseOperations, parseChain, parseCond, parseChoice, parseExpr};
+ghost use Rattle.symbols.specs.Table.{heldBy};
+ghost use Rattle.cells.specs.Answers.{treeCellStart, treeTermStart};
+ghost use Rattle.emitter.specs.Emitted.{emittedBy, basesOf};
+ghost use Rattle.expressions.specs.Chains.{operationAt, comparisonOf, comparisonWords, elseExpr};
+ghost use Rattle.expressions.specs.Compiles.{Compiles, Tests, Alternates, Turned};
+
+pub mod relation;
+mod unaries;
+mod words;
+
+// How far a part was read, or its failure; and what is emitted after it.
+pub struct Answer {
+    pub part: Part,
+    pub output: Output,
+}
+
+// A condition's answer, with the address of the jump that is taken where it fails.
+pub struct Tested {
+    pub part: Part,
+    pub output: Output,
+    pub hole: u16,
+}
+
+// What is emitted with a jump whose target is filled in later, and that jump's address.
+pub struct Jumping {
+    pub output: Output,
+    pub hole: u16,
+}
+
+// An operation's answer, if there is one.
+struct Turn {
+    more: bool,
+    part: Part,
+    output: Output,
+}
+
+// An operator's cell, after the operator.
+fn binary(
+    source: &[u8],
+    table: &[u16],
+    image: &mut [u16],
+    context: Context,
+    code: u16,
+    at: usize,
+    output: Output,
+) -> Answer
+    ensures { λ r. ⌜ Compiles (basesOf context) (λ c _. cellWords code c) (emittedBy output (now (image .entry))) (emittedBy (r .output) (now (image .exit))) (r .part) (parseCell (now (source .entry)) (heldBy (context .names) (now (table .entry))) at) ⌝ }
+{
+    let operand = cell_at(source, table, context.names, at);
+    let part = operand.part;
+    let Part::Read { next } = part else {
+        return Answer { part, output };
+    };
+    let cell = operand.cell;
+    let more = emit_cell(image, context, output, code, cell);
+    Answer {
+        part: Part::Read { next },
+        output: more,
+    }
+}
+
+// A shift's amount, after the shift word.
+fn shifted(
+    source: &[u8],
+    table: &[u16],
+    image: &mut [u16],
+    context: Context,
+    kind: u16,
+    at: usize,
+    output: Output,
+) -> Answer
+    ensures { λ r. ⌜ Compiles (basesOf context) (λ n _. Sym.shift kind n ∷ []) (emittedBy output (now (image .entry))) (emittedBy (r .output) (now (image .exit))) (r .part) (parseInRange (now (source .entry)) (heldBy (context .names) (now (table .entry))) (between 1 15) at) ⌝ }
+{
+    let amount = amount_at(source, table, context.names, at);
+    let part = amount.part;
+    let Part::Read { next } = part else {
+        return Answer { part, output };
+    };
+    let more = emit_shift(image, output, kind, amount.value);
+    Answer {
+        part: Part::Read { next },
+        output: more,
+    }
+}
+
+// The operation that a token begins, if it begins one.
+fn operation(
+    source: &[u8],
+    table: &[u16],
+    image: &mut [u16],
+    context: Context,
+    t: Token,
+    output: Output,
+) -> Turn
+    ensures { λ r. ⌜ Turned (basesOf context) (emittedBy output (now (image .entry))) (emittedBy (r .output) (now (image .exit))) (r .more) (r .part) (operationAt (now (source .entry)) (heldBy (context .names) (now (table .entry))) t) ⌝ }
+{
+    let operator = words::operator(t.kind);
+    if 0 < operator {
+        let one = binary(source, table, image, context, operator - 1, t.next, output);
+        let part = one.part;
+        let more = one.output;
+        return Turn {
+            more: true,
+            part,
+            output: more,
+        };
+    }
+    let shift = words::shift_word(t.kind);
+    if 0 < shift {
+        let one = shifted(source, table, image, context, shift - 1, t.next, output);
+        let part = one.part;
+        let more = one.output;
+        return Turn {
+            more: true,
+            part,
+            output: more,
+        };
+    }
+    Turn {
+        more: false,
+        part: Part::Read { next: t.at },
+        output,
+    }
+}
+
+// Any operations. The turns are counted, as in the definition: each part takes a byte or more.
+fn operations(
+    source: &[u8],
+    table: &[u16],
+    image: &mut [u16],
+    context: Context,
+    at: usize,
+    output: Output,
+) -> Answer
+    ensures { λ r. ⌜ Compiles (basesOf context) (λ os _. operationsWords os) (emittedBy output (now (image .entry))) (emittedBy (r .output) (now (image .exit))) (r .part) (parseOperations (now (source .entry)) (heldBy (context .names) (now (table .entry))) at) ⌝ }
+{
+    let mut i = at;
+    let mut held = output;
+    let mut k = source.len();
+    while 0 < k {
+        k -= 1;
+        let t = operator_at(source, i);
+        let turn = operation(source, table, image, context, t, held);
+        held = turn.output;
+        if !turn.more {
+            return Answer {
+                part: Part::Read { next: i },
+                output: held,
+            };
+        }
+        let part = turn.part;
+        let Part::Read { next } = part else {
+            return Answer { part, output: held };
+        };
+        i = next;
+    }
+    Answer {
+        part: Part::Read { next: i },
+        output: held,
+    }
+}
+
+// An expression and `)`, after the `(`.
+fn bracketed(
+    source: &[u8],
+    table: &[u16],
+    image: &mut [u16],
+    context: Context,
+    at: usize,
+    left: usize,
+    output: Output,
+) -> Answer
+    ensures { λ r. ⌜ Compiles (basesOf context) exprWords (emittedBy output (now (image .entry))) (emittedBy (r .output) (now (image .exit))) (r .part) (parseBracketed (now (source .entry)) (heldBy (context .names) (now (table .entry))) (parseExpr (now (source .entry)) (heldBy (context .names) (now (table .entry))) left) at) ⌝ }
+{
+    let inner = expression(source, table, image, context, at, left, output);
+    let part = inner.part;
+    let Part::Read { next } = part else {
+        return inner;
+    };
+    let held = inner.output;
+    let close = expect(source, kind::RIGHT_PARENTHESIS, next);
+    Answer {
+        part: close,
+        output: held,
+    }
+}
+
+// A call, after the procedure's name: its argument, if it has one, then the jump through the procedure word.
+pub fn call(
+    source: &[u8],
+    table: &[u16],
+    image: &mut [u16],
+    context: Context,
+    number: u16,
+    at: usize,
+    left: usize,
+    output: Output,
+) -> Answer
+    ensures { λ r. ⌜ Compiles (basesOf context) termWords (emittedBy output (now (image .entry))) (emittedBy (r .output) (now (image .exit))) (r .part) (parseCall (now (source .entry)) (heldBy (context .names) (now (table .entry))) (parseExpr (now (source .entry)) (heldBy (context .names) (now (table .entry))) left) (Term.call number) (Term.callWith number) at) ⌝ }
+{
+    let t = token_at(source, at);
+    if t.kind != kind::LEFT_PARENTHESIS {
+        let more = emit_through(image, output, code::JST, number);
+        return Answer {
+            part: Part::Read { next: at },
+            output: more,
+        };
+    }
+    let argument = bracketed(source, table, image, context, t.next, left, output);
+    let part = argument.part;
+    let Part::Read { next } = part else {
+        return argument;
+    };
+    let held = argument.output;
+    let more = emit_through(image, held, code::JST, number);
+    Answer {
+        part: Part::Read { next },
+        output: more,
+    }
+}
+
+// A cell as a term, after its first token.
+fn cell_term(
+    source: &[u8],
+    table: &[u16],
+    image: &mut [u16],
+    context: Context,
+    start: CellStart,
+    at: usize,
+    output: Output,
+) -> Answer
+    ensures { λ r. ⌜ Compiles (basesOf context) (λ c _. cellWords LDA c) (emittedBy output (now (image .entry))) (emittedBy (r .output) (now (image .exit))) (r .part) (cellFrom (now (source .entry)) (heldBy (context .names) (now (table .entry))) (treeCellStart start) at) ⌝ }
+{
+    let operand = cell_from(source, table, context.names, start, at);
+    let part = operand.part;
+    let Part::Read { next } = part else {
+        return Answer { part, output };
+    };
+    let cell = operand.cell;
+    let more = emit_cell(image, context, output, code::LDA, cell);
+    Answer {
+        part: Part::Read { next },
+        output: more,
+    }
+}
+
+// A term from after its first token, with the levels left for an expression in it.
+fn term(
+    source: &[u8],
+    table: &[u16],
+    image: &mut [u16],
+    context: Context,
+    start: TermStart,
+    at: usize,
+    left: usize,
+    output: Output,
+) -> Answer
+    ensures { λ r. ⌜ Compiles (basesOf context) termWords (emittedBy output (now (image .entry))) (emittedBy (r .output) (now (image .exit))) (r .part) (termFrom (now (source .entry)) (heldBy (context .names) (now (table .entry))) (parseExpr (now (source .entry)) (heldBy (context .names) (now (table .entry))) left) (treeTermStart start) at) ⌝ }
+{
+    match start {
+        TermStart::Cell { start: cell } => {
+            cell_term(source, table, image, context, cell, at, output)
+        }
+        TermStart::Accumulator => Answer {
+            part: Part::Read { next: at },
+            output,
+        },
+        TermStart::Zero => {
+            let more = emit_generic(image, output, slot::CRA);
+            Answer {
+                part: Part::Read { next: at },
+                output: more,
+            }
+        }
+        TermStart::Bracket => bracketed(source, table, image, context, at, left, output),
+        TermStart::Call { number } => {
+            call(source, table, image, context, number, at, left, output)
+        }
+    }
+}
+
+// Unary words, a term, then any operations; the unary words' instructions follow the term's.
+fn chain(
+    source: &[u8],
+    table: &[u16],
+    image: &mut [u16],
+    context: Context,
+    at: usize,
+    left: usize,
+    output: Output,
+) -> Answer
+    ensures { λ r. ⌜ Compiles (basesOf context) exprWords (emittedBy output (now (image .entry))) (emittedBy (r .output) (now (image .exit))) (r .part) (parseChain (now (source .entry)) (heldBy (context .names) (now (table .entry))) (parseExpr (now (source .entry)) (heldBy (context .names) (now (table .entry))) left) at) ⌝ }
+{
+    let from = unaries::unaries_next(source, at);
+    let first = term_start_at(source, table, context.names, from);
+    let part = first.part;
+    let Part::Read { next } = part else {
+        return Answer { part, output };
+    };
+    let start = first.start;
+    let one = term(source, table, image, context, start, next, left, output);
+    let one_part = one.part;
+    let Part::Read { next: after } = one_part else {
+        return one;
+    };
+    let held = one.output;
+    let more = unaries::emit_unaries(source, image, at, held);
+    operations(source, table, image, context, after, more)
+}
+
+// After a condition's expression: a relation and its cell, or a test.
+fn comparison(
+    source: &[u8],
+    table: &[u16],
+    image: &mut [u16],
+    context: Context,
+    at: usize,
+    output: Output,
+) -> Tested
+    ensures { λ r. ⌜ Tests (basesOf context) comparisonWords (emittedBy output (now (image .entry))) (emittedBy (r .output) (now (image .exit))) (r .hole) (r .part) (comparisonOf (now (source .entry)) (heldBy (context .names) (now (table .entry))) (tokenAt (now (source .entry)) at)) ⌝ }
+{
+    let t = token_at(source, at);
+    if 0 < words::relation(t.kind) {
+        let operand = lone_cell_at(source, table, context.names, t.next);
+        let part = operand.part;
+        let Part::Read { next } = part else {
+            return Tested {
+                part,
+                output,
+                hole: 0,
+            };
+        };
+        let cell = operand.cell;
+        let compared = emit_cell(image, context, output, code::CAS, cell);
+        let last = relation::emit_relation(image, compared, t.kind);
+        let more = last.output;
+        return Tested {
+            part: Part::Read { next },
+            output: more,
+            hole: last.hole,
+        };
+    }
+    let test = words::test(t.kind);
+    if 0 < test {
+        let last = relation::emit_test(image, output, (test - 1) as usize);
+        let more = last.output;
+        return Tested {
+            part: Part::Read { next: t.next },
+            output: more,
+            hole: last.hole,
+        };
+    }
+    let part = fail_at(t, 6);
+    Tested {
+        part,
+        output,
+        hole: 0,
+    }
+}
+
+// A condition.
+pub fn condition(
+    source: &[u8],
+    table: &[u16],
+    image: &mut [u16],
+    context: Context,
+    at: usize,
+    left: usize,
+    output: Output,
+) -> Tested
+    ensures { λ r. ⌜ Tests (basesOf context) condWords (emittedBy output (now (image .entry))) (emittedBy (r .output) (now (image .exit))) (r .hole) (r .part) (parseCond (now (source .entry)) (heldBy (context .names) (now (table .entry))) (parseExpr (now (source .entry)) (heldBy (context .names) (now (table .entry))) left) at) ⌝ }
+{
+    let t = token_at(source, at);
+    let bare = words::bare(t.kind);
+    if 0 < bare {
+        let last = relation::emit_test(image, output, (bare - 1) as usize);
+        let more = last.output;
+        return Tested {
+            part: Part::Read { next: t.next },
+            output: more,
+            hole: last.hole,
+        };
+    }
+    let value = expression(source, table, image, context, at, left, output);
+    let part = value.part;
+    let held = value.output;
+    let Part::Read { next } = part else {
+        return Tested {
+            part,
+            output: held,
+            hole: 0,
+        };
+    };
+    comparison(source, table, image, context, next, held)
+}
+
+// `.IF` condition `.THEN` expression `.ELSE` expression, after the `.IF`.
+fn choice(
+    source: &[u8],
+    table: &[u16],
+    image: &mut [u16],
+    context: Context,
+    at: usize,
+    left: usize,
+    output: Output,
+) -> Answer
+    ensures { λ r. ⌜ Compiles (basesOf context) exprWords (emittedBy output (now (image .entry))) (emittedBy (r .output) (now (image .exit))) (r .part) (parseChoice (now (source .entry)) (heldBy (context .names) (now (table .entry))) (parseExpr (now (source .entry)) (heldBy (context .names) (now (table .entry))) left) at) ⌝ }
+{
+    let test = condition(source, table, image, context, at, left, output);
+    let part = test.part;
+    let held = test.output;
+    let Part::Read { next } = part else {
+        return Answer { part, output: held };
+    };
+    let then = expect(source, kind::THEN, next);
+    let Part::Read { next: first } = then else {
+        return Answer {
+            part: then,
+            output: held,
+        };
+    };
+    let one = expression(source, table, image, context, first, left, held);
+    let one_part = one.part;
+    let Part::Read { next: after } = one_part else {
+        return one;
+    };
+    let done = one.output;
+    let jump = relation::emit_hole(image, done);
+    let more = jump.output;
+    fill_jump(image, test.hole, more.code);
+    alternative(source, table, image, context, after, left, more, jump.hole)
+}
+
+// `.ELSE` expression, and the jump past it filled in.
+fn alternative(
+    source: &[u8],
+    table: &[u16],
+    image: &mut [u16],
+    context: Context,
+    at: usize,
+    left: usize,
+    output: Output,
+    hole: u16,
+) -> Answer
+    ensures { λ r. ⌜ Alternates (basesOf context) exprWords (emittedBy output (now (image .entry))) (emittedBy (r .output) (now (image .exit))) hole (r .part) (elseExpr (now (source .entry)) (parseExpr (now (source .entry)) (heldBy (context .names) (now (table .entry))) left) at) ⌝ }
+{
+    let otherwise = expect(source, kind::ELSE, at);
+    let Part::Read { next } = otherwise else {
+        return Answer {
+            part: otherwise,
+            output,
+        };
+    };
+    let two = expression(source, table, image, context, next, left, output);
+    let part = two.part;
+    let Part::Read { next: _ } = part else {
+        return two;
+    };
+    let held = two.output;
+    fill_jump(image, hole, held.code);
+    Answer { part, output: held }
+}
+
+// An expression, with `left` levels of nesting left, its own among them.
+pub fn expression(
+    source: &[u8],
+    table: &[u16],
+    image: &mut [u16],
+    context: Context,
+    at: usize,
+    left: usize,
+    output: Output,
+) -> Answer
+    ensures { λ r. ⌜ Compiles (basesOf context) exprWords (emittedBy output (now (image .entry))) (emittedBy (r .output) (now (image .exit))) (r .part) (parseExpr (now (source .entry)) (heldBy (context .names) (now (table .entry))) left at) ⌝ }
+{
+    if left == 0 {
+        let part = too_deep_at(source, table, context.names, at);
+        return Answer { part, output };
+    }
+    let t = token_at(source, at);
+    if t.kind == kind::IF {
+        return choice(source, table, image, context, t.next, left - 1, output);
+    }
+    chain(source, table, image, context, at, left - 1, output)
+}

@@ -1,0 +1,22 @@
+// The listing program: reads a source, compiles it, and prints the listing.
+use libc::STDIN_FILENO;
+use libc::STDOUT_FILENO;
+
+// The first bytes of a text.
+fn print(text: &[u8], size: usize) {
+    if size <= text.len() {
+        io::write_all(STDOUT_FILENO, &text[0..size]);
+    }
+}
+
+fn main() {
+    let mut image = [0u16; 16384];
+    let mut scratch = [0u16; 12288];
+    // One byte more than the longest source: a longer text fails by that byte.
+    let mut text = [0u8; 8193];
+    let n = io::read_full(STDIN_FILENO, &mut text);
+    let answer = compiler::compile(&text[..n], &mut image, &mut scratch);
+    let mut out = [0u8; 262144];
+    let size = listing_lines::lines(answer, &image, &mut out);
+    print(&out, size);
+}

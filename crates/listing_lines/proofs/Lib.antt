@@ -1,0 +1,2 @@
+-- Laws of texts that are written.
+pub mod Laws

@@ -1,0 +1,64 @@
+-- `lines` meets its contract. Assumes nothing.
+use Rattle.listing_lines.proofs.Laws.{then, whole-accepted, whole-failed}
+use borrow.Author.Needs.{needs}
+use Rattle.listing_lines.proofs.lines.Statement.{statement}
+use Rattle.listing_lines.proofs.lines.Tie as tie
+
+enum-known-answer : tie.Need-enum-known-answer
+enum-known-answer c = search needs
+
+put-result-requires : tie.Need-put-result-requires
+put-result-requires c κs = search needs
+
+put-counts-requires : tie.Need-put-counts-requires
+put-counts-requires c κs = search needs
+
+slice-aggregate-put-words : tie.Need-slice-aggregate-put-words
+slice-aggregate-put-words c = search needs
+
+put-words-requires : tie.Need-put-words-requires
+put-words-requires c κs = search needs
+
+slice-aggregate-put-words-2 : tie.Need-slice-aggregate-put-words-2
+slice-aggregate-put-words-2 c = search needs
+
+put-words-requires-2 : tie.Need-put-words-requires-2
+put-words-requires-2 c κs = search needs
+
+enum-known-answer-2 : tie.Need-enum-known-answer-2
+enum-known-answer-2 c = search needs
+
+put-result-requires-2 : tie.Need-put-result-requires-2
+put-result-requires-2 c κs = search needs
+
+same-length : tie.Need-same-length
+same-length c = search needs
+
+returns : tie.Need-returns
+returns c =
+    whole-accepted _ (c .before .before .before .before .before .before .before .before .before .before .before .before .before .before .before .before .before .before .before .answer .given .1)
+    (then (c .before .before .before .before .before .before .before .before .before .before .before .before .before .before .before .before .put-result .ensures .0) (then (c .before .before .before .before .before .before .before .before .before .before .before .before .put-counts .ensures .0) (then (c .before .before .before .before .before .before .before .put-words .ensures .0) (c .before .before .put-words2 .ensures .0))))
+
+same-length-2 : tie.Need-same-length-2
+same-length-2 c = search needs
+
+returns-2 : tie.Need-returns-2
+returns-2 c = whole-failed _ (c .before .before .before .before .before .answer2 .given .1) (c .before .before .put-result2 .ensures .0)
+
+pub lines-spec : {M : Type 1} → statement M
+lines-spec =
+    tie.close
+    (tie.spec
+    enum-known-answer
+    put-result-requires
+    put-counts-requires
+    slice-aggregate-put-words
+    put-words-requires
+    slice-aggregate-put-words-2
+    put-words-requires-2
+    enum-known-answer-2
+    put-result-requires-2
+    same-length
+    returns
+    same-length-2
+    returns-2)

@@ -1,0 +1,32 @@
+-- `put_line` meets its contract. Assumes nothing.
+use mathlib.Core.Path.{refl}
+use native.Mathlib.Omega.{arith}
+use Rattle.listing_lines.proofs.Laws.{then, one}
+use borrow.Author.Needs.{needs}
+use Rattle.listing_lines.proofs.put_line.Statement.{statement}
+use Rattle.listing_lines.proofs.put_line.Tie as tie
+
+put-text-requires : tie.Need-put-text-requires
+put-text-requires c κs = search needs
+
+put-digits-requires : tie.Need-put-digits-requires
+put-digits-requires c κs = search needs
+
+store-requires : tie.Need-store-requires
+store-requires c κs = search needs
+
+add-result : tie.Need-add-result
+add-result c = search needs
+
+same-length : tie.Need-same-length
+same-length c = search needs
+
+returns : tie.Need-returns
+returns c =
+    let n = c .before .before .before .before .before .before .before .before .before .before .put-text .ensures .ends in
+    (then (c .before .before .before .before .before .before .before .before .before .before .put-text .ensures) (then (c .before .before .before .before .before .before .put-digits .ensures .0) (one 10 (c .before .before .store .ensures) refl)), omega (arith, n))
+
+pub put-line-spec : {M : Type 1} → statement M
+put-line-spec =
+    tie.close
+    (tie.spec put-text-requires put-digits-requires store-requires add-result same-length returns)

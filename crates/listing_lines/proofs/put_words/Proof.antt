@@ -1,0 +1,75 @@
+-- `put_words` meets its contract. Assumes nothing.
+use mathlib.Core.Path.{_≡_, refl}
+use native.Mathlib.Omega.{arith}
+use Prim.Native.Nat.{_+_, _*_, _≤_}
+use lib.ListN.{length, take, drop}
+use lib.Seq.{length-sets}
+use Rattle.emission.specs.Listing.{wordLines}
+use Rattle.listing_lines.proofs.Laws.{Left, begins, goes-on, is-whole, next-word, no-word, none-left}
+use borrow.Author.Needs.{needs}
+use Rattle.listing_lines.proofs.put_words.Statement.{statement}
+use Rattle.listing_lines.proofs.put_words.Tie as tie
+
+abbrev Inv-loop : tie.InvT-loop
+Inv-loop out₀ image at name first count i₀ next₀ left₀ out i next left =
+    (length out ≡ length out₀)
+    × (next + 16 * left ≤ at + 16 * count)
+    × Left out₀ out at next (wordLines name i (take left (drop i image))) (wordLines name first (take count (drop first image)))
+
+abbrev μ-loop : tie.MeasureT-loop
+μ-loop out₀ image at name first count i₀ next₀ left₀ out i next left = left
+
+loop-holds : tie.Need-loop-holds Inv-loop μ-loop
+loop-holds c = (refl, omega arith, begins refl)
+
+same-length : tie.Need-same-length Inv-loop μ-loop
+same-length c = c .before .before .loop .inv .0
+
+returns : tie.Need-returns Inv-loop μ-loop
+returns c = (is-whole (no-word _ (c .before .before .before .before .before .before .args .image .now) (c .before .before .loop .i) (c .before .before .loop .left) (c .if1 .taken)) (c .before .before .loop .inv .2), omega arith)
+
+mul-put-word : tie.Need-mul-put-word Inv-loop μ-loop
+mul-put-word c = search needs
+
+shared-slice-read-put-word : tie.Need-shared-slice-read-put-word Inv-loop μ-loop
+shared-slice-read-put-word c = search needs
+
+put-word-requires : tie.Need-put-word-requires Inv-loop μ-loop
+put-word-requires c κs = search needs
+
+add-i : tie.Need-add-i Inv-loop μ-loop
+add-i c = search needs
+
+sub-left : tie.Need-sub-left Inv-loop μ-loop
+sub-left c = search needs
+
+loop-less : tie.Need-loop-less Inv-loop μ-loop
+loop-less c = search needs
+
+loop-again : tie.Need-loop-again Inv-loop μ-loop
+loop-again c = (simp (c .before .before .put-word .ensures .0 .written, length-sets) (c .before .before .before .before .before .before .before .loop .inv .0), omega arith, goes-on _ _ (next-word _ (c .before .before .before .before .before .before .before .before .before .before .before .args .image .now) (c .before .before .before .before .before .before .before .loop .i) (c .before .before .before .before .before .before .before .loop .left) (c .before .before .before .before .before .if1 .left) (c .before .before .before .before .before .before .loop-test .taken)) (c .before .before .before .before .before .before .before .loop .inv .2) (c .before .before .put-word .ensures .0))
+
+same-length-2 : tie.Need-same-length-2 Inv-loop μ-loop
+same-length-2 c = c .before .loop .inv .0
+
+returns-2 : tie.Need-returns-2 Inv-loop μ-loop
+returns-2 c = (is-whole (none-left _ (c .before .before .before .before .before .args .image .now) (c .before .loop .i) (c .before .loop .left) (c .loop-test .left)) (c .before .loop .inv .2), omega arith)
+
+pub put-words-spec : {M : Type 1} → statement M
+put-words-spec =
+    tie.close
+    (tie.spec
+    Inv-loop
+    μ-loop
+    loop-holds
+    same-length
+    returns
+    mul-put-word
+    shared-slice-read-put-word
+    put-word-requires
+    add-i
+    sub-left
+    loop-less
+    loop-again
+    same-length-2
+    returns-2)

@@ -1,0 +1,46 @@
+-- The listing as a text, and what is written of it. Assumes nothing.
+use Prim.Native.Nat.{ℕ, zero, suc, _+_, _/_, _%_}
+use mathlib.Core.Path.{_≡_}
+use mathlib.Core.List.{List, [], _∷_, _++_}
+use lib.Dec.{ltb}
+use lib.ListN.{length, take, drop}
+use lib.Seq.{sets}
+use Rattle.source.specs.Bytes.{whether, bytes}
+use Rattle.emission.specs.Listing.{octal, decimal, line, wordLines}
+use Rattle.compiler.specs.declared.Answer.{Answer}
+use Rattle.compiler.specs.declared.Answer.the-variants.{Accepted, Failed}
+
+-- no listing is longer: 16 bytes for each of twice 65535 words, and five lines
+abbrev pub limit : ℕ
+limit = 4194304
+
+-- a text is written from an offset on, and the offset after it is answered
+pub record Wrote (before after : List ℕ) (at next : ℕ) (text : List ℕ) : Type 0 where
+  pub written : after ≡ sets before at text
+  pub ends : next ≡ at + length text
+
+-- so many of a number's lowest digits in a base
+unfoldable pub digitsBy : ℕ → ℕ → ℕ → List ℕ
+digitsBy base zero n = []
+digitsBy base (suc k) n = digitsBy base k (n / base) ++ ((48 + n % base) ∷ [])
+
+-- how many digits a number has in decimal, up to so many
+unfoldable pub lengthBy : ℕ → ℕ → ℕ
+lengthBy zero n = 0
+lengthBy (suc k) n = whether (ltb n 10) (λ _. 1) (λ _. suc (lengthBy k (n / 10)))
+
+-- the listing's parts, as in `listingDef`
+unfoldable pub wordLine : List ℕ → ℕ → ℕ → List ℕ
+wordLine name at word = name ++ (octal at ++ line (bytes ":") (octal word))
+
+unfoldable pub resultLines : ℕ → ℕ → List ℕ
+resultLines number at = line (bytes "result=") (decimal number) ++ line (bytes "at=") (decimal at)
+
+unfoldable pub countLines : ℕ → ℕ → ℕ → List ℕ
+countLines entry words globals = line (bytes "entry=") (octal entry) ++ (line (bytes "words=") (decimal words) ++ line (bytes "globals=") (decimal globals))
+
+unfoldable pub listing : Answer → List ℕ → List ℕ
+listing (Accepted entry words globals) image =
+    resultLines 0 0 ++ (countLines entry words globals ++
+    (wordLines (bytes "g=") 0o200 (take globals (drop 0o200 image)) ++ wordLines (bytes "w=") 0o1000 (take words (drop 0o1000 image))))
+listing (Failed number at) image = resultLines number at

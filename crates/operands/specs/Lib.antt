@@ -1,0 +1,2 @@
+-- What the code's cells stand for.
+pub mod Trees

@@ -1,0 +1,94 @@
+// Runs document 01's cases that are not starred, by name: the listing of each, and what is left in the image and in scratch.
+use case_input::parse_number;
+use case_input::part_end;
+use libc::STDIN_FILENO;
+use libc::STDOUT_FILENO;
+
+// What every word of the lent slices holds before a case.
+const MARK: u16 = 7;
+
+fn print(text: &[u8]) {
+    io::write_all(STDOUT_FILENO, text);
+}
+
+fn print_start(text: &[u8], size: usize) {
+    if size <= text.len() {
+        print(&text[0..size]);
+    }
+}
+
+fn all_are(words: &[u16], value: u16) -> bool {
+    let mut i = 0;
+    while i < words.len() {
+        if words[i] != value {
+            return false;
+        }
+        i += 1;
+    }
+    true
+}
+
+fn listing(source: &[u8], image: &mut [u16], scratch: &mut [u16]) {
+    let answer = compiler::compile(source, image, scratch);
+    let mut out = [0u8; 262144];
+    let size = listing_lines::lines(answer, image, &mut out);
+    print_start(&out, size);
+    if all_are(image, MARK) {
+        print(b"image=kept\n");
+    } else {
+        print(b"image=laid\n");
+    }
+    if all_are(scratch, 0) {
+        print(b"scratch=zeros\n");
+    } else {
+        print(b"scratch=left\n");
+    }
+}
+
+// A case with so many words of image and of scratch.
+fn lend(source: &[u8], image_size: u32, scratch_size: u32) {
+    let mut image = [MARK; 16385];
+    let mut scratch = [MARK; 12289];
+    let words = image_size as usize;
+    let spare = scratch_size as usize;
+    if words <= 16385 {
+        if spare <= 12289 {
+            listing(source, &mut image[0..words], &mut scratch[0..spare]);
+        }
+    }
+}
+
+// The case at `at`: the length of its name, the words of image and scratch, the length of its source, then the name and the source, a line each. Answers where the next one starts.
+fn case(text: &[u8], at: usize) -> usize {
+    let name = parse_number(text, at);
+    let image = parse_number(text, name.next);
+    let scratch = parse_number(text, image.next);
+    let size = parse_number(text, scratch.next);
+    let from = size.next;
+    let name_end = part_end(text, from, name.value);
+    if from <= name_end {
+        print(&text[from..name_end]);
+        print(b"\n");
+    }
+    let source = part_end(text, name_end, 1);
+    let end = part_end(text, source, size.value);
+    if source <= end {
+        lend(&text[source..end], image.value, scratch.value);
+    }
+    part_end(text, end, 1)
+}
+
+fn cases(text: &[u8]) {
+    let count = parse_number(text, 0);
+    let last = count.value;
+    let mut at = count.next;
+    for _ in 0..last {
+        at = case(text, at);
+    }
+}
+
+fn main() {
+    let mut text = [0u8; 65536];
+    let n = io::read_full(STDIN_FILENO, &mut text);
+    cases(&text[..n]);
+}

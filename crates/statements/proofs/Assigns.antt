@@ -1,0 +1,76 @@
+-- Assignments and calls, as statements. Assumes nothing.
+use Prim.Native.Nat.{ℕ}
+use mathlib.Core.Path.{_≡_, refl, ap, ap₂, _∙_, subst}
+use mathlib.Core.Bool.{Bool, true, false}
+use mathlib.Core.List.{List}
+use native.Mathlib.Omega.{arith}
+use Rattle.source.specs.Bytes.{whether}
+use Rattle.source.specs.Kinds
+use Rattle.source.specs.Tokens.{tokenAt}
+use Rattle.syntax.specs.Tree.{Expr, Term, Target, Stmt}
+use Rattle.syntax.specs.Symbols.{Names}
+use Rattle.syntax.specs.Parse.{Got, andThen, is, expect}
+use Rattle.syntax.specs.Parse.Got.{got, failed}
+use Rattle.syntax.specs.Emission.{targetCell, exprWords, termWords, stmtWords}
+use Rattle.syntax.specs.Cells.{parseLoneCell}
+use Rattle.syntax.specs.Statements.{parseAssigned, parseSetX}
+use Rattle.syntax.specs.Expressions.{parseBracketed, parseCall}
+use Rattle.cells.specs.declared.Part.{Part}
+use Rattle.emitter.specs.Emitted.{Emitted, Bases}
+use Rattle.emitter.specs.Lays.{Code, Lays}
+use Rattle.expressions.specs.Compiles.{Compiles}
+use Rattle.statements.specs.Forms.{afterEqual, storedWords, loadedWords}
+use Rattle.statements.proofs.Laws.{then-then, within-form}
+
+module _ (source : List ℕ) (names : Names) (expr : ℕ → Got Expr) (at : ℕ) where
+  -- `=` expression as some statement
+  assigned-as : (stmt : Expr → Stmt) → parseAssigned source names expr stmt at ≡ andThen (afterEqual source expr at) (λ e n. got (stmt e) n)
+  unfolding parseAssigned afterEqual
+  assigned-as stmt = then-then (expect Kinds.equal source at) (λ _ n. expr n) (λ e n. got (stmt e) n)
+
+  pub stored-as : {f : Bases} {a b : Emitted} {part : Part} (target : Target) → Compiles f (storedWords (targetCell target)) a b part (afterEqual source expr at)
+      → Compiles f stmtWords a b part (parseAssigned source names expr (Stmt.assign target) at)
+  unfolding storedWords stmtWords
+  stored-as target c = rw (assigned-as (Stmt.assign target)) (within-form (Stmt.assign target) c (λ e l. l))
+
+  pub to-a : {f : Bases} {a b : Emitted} {part : Part} → Compiles f exprWords a b part (afterEqual source expr at) → Compiles f stmtWords a b part (parseAssigned source names expr Stmt.toA at)
+  unfolding stmtWords
+  to-a c = rw (assigned-as Stmt.toA) (within-form Stmt.toA c (λ e l. l))
+
+module _ (source : List ℕ) (names : Names) (at : ℕ) where
+  pub to-x : {f : Bases} {a b : Emitted} {part : Part} → Compiles f loadedWords a b part (afterEqual source (parseLoneCell source names) at) → Compiles f stmtWords a b part (parseSetX source names at)
+  unfolding parseSetX afterEqual loadedWords stmtWords
+  to-x c =
+      rw (then-then (expect Kinds.equal source at) (λ _ n. parseLoneCell source names n) (λ cell n. got (Stmt.setX cell) n))
+      (within-form Stmt.setX c (λ e l. l))
+
+-- ---- Calls
+
+-- the same words under another name
+module _ {A B : Type 0} {f : Bases} {words : A → Code} {words′ : B → Code} {a b : Emitted} {part : Part} where
+  relabel : {n : ℕ} (x : A) (y : B) → (Lays f a b (words x) → Lays f a b (words′ y)) → Compiles f words a b part (got x n) → Compiles f words′ a b part (got y n)
+  relabel {n} x y k (Compiles.read {t = t} {n = m} i p l) =
+      let e : t ≡ x = cc in
+      let q : m ≡ n = cc in
+      Compiles.read refl (p ∙ ap Part.Read q) (k (subst (λ z. Lays f a b (words z)) e l))
+  relabel x y k (Compiles.fails i p) = absurd (let z : _≡_ {A = ℕ} 0 1 = cc in omega arith)
+
+  refail : {k o : ℕ} → Compiles f words a b part (failed k o) → Compiles f words′ a b part (failed k o)
+  refail (Compiles.read i p l) = absurd (let z : _≡_ {A = ℕ} 0 1 = cc in omega arith)
+  refail {k} {o} (Compiles.fails {k = l} {at = m} i p) =
+      let e : l ≡ k = cc in
+      let q : m ≡ o = cc in
+      Compiles.fails refl (p ∙ ap₂ (λ x y. Part.Failed x y) e q)
+
+-- a call has the same words as a statement and as a term
+module _ {f : Bases} {a b : Emitted} {part : Part} (source : List ℕ) (names : Names) (expr : ℕ → Got Expr) (p at : ℕ) where
+  pub called : Compiles f termWords a b part (parseCall source names expr (Term.call p) (Term.callWith p) at) → Compiles f stmtWords a b part (parseCall source names expr (Stmt.call p) (Stmt.callWith p) at)
+  unfolding parseCall andThen termWords stmtWords
+  called c = go (is Kinds.leftParenthesis (tokenAt source at)) (parseBracketed source names expr (tokenAt source at .next)) c
+    where
+      go : (x : Bool) (g : Got Expr)
+          → Compiles f termWords a b part (whether x (λ _. andThen g (λ e n. got (Term.callWith p e) n)) (λ _. got (Term.call p) at))
+          → Compiles f stmtWords a b part (whether x (λ _. andThen g (λ e n. got (Stmt.callWith p e) n)) (λ _. got (Stmt.call p) at))
+      go true (got e n) c = relabel (Term.callWith p e) (Stmt.callWith p e) (λ l. l) c
+      go true (failed k o) c = refail c
+      go false g c = relabel (Term.call p) (Stmt.call p) (λ l. l) c

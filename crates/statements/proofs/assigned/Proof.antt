@@ -1,0 +1,45 @@
+-- `statements::assigned` meets its contract. Assumes nothing.
+use Rattle.statements.specs.Forms.{afterEqual}
+use Rattle.cells.proofs.Laws.{part-read, part-failed}
+use Rattle.statements.proofs.Laws.{failing, from-got}
+use borrow.Author.Needs.{needs}
+use Rattle.statements.proofs.assigned.Statement.{statement}
+use Rattle.statements.proofs.assigned.Tie as tie
+
+expect-requires : tie.Need-expect-requires
+expect-requires c κs = search needs
+
+enum-known-part : tie.Need-enum-known-part
+enum-known-part c = search needs
+
+enum-told : tie.Need-enum-told
+enum-told c = search needs
+
+returns : tie.Need-returns
+unfolding afterEqual
+returns c = failing _ (part-failed _ (c .before .before .expect .ensures) (c .enum-told .given .1)) (c .enum-told .given .1)
+
+expression-requires : tie.Need-expression-requires
+expression-requires c κs = search needs
+
+same-length : tie.Need-same-length
+same-length c = search needs
+
+returns-2 : tie.Need-returns-2
+unfolding afterEqual
+returns-2 c =
+    let known = c .before .before .before .before .before in
+    let e = part-read _ (known .before .before .expect .ensures) (known .part .given .1) in
+    from-got _ (e .is) (c .before .before .expression .ensures)
+
+pub assigned-spec : {M : Type 1} → statement M
+assigned-spec =
+    tie.close
+    (tie.spec
+    expect-requires
+    enum-known-part
+    enum-told
+    returns
+    expression-requires
+    same-length
+    returns-2)

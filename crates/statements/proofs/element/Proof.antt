@@ -1,0 +1,47 @@
+-- `statements::element` meets its contract. Assumes nothing.
+use Rattle.syntax.specs.Statements.{parseElement}
+use Rattle.syntax.specs.Emission.{targetCell}
+use Rattle.operands.specs.Trees.{treeCell}
+use Rattle.cells.proofs.Laws.{got-read, got-failed}
+use Rattle.statements.proofs.Laws.{failing, from-got}
+use Rattle.statements.proofs.Assigns.{stored-as}
+use borrow.Author.Needs.{needs}
+use Rattle.statements.proofs.element.Statement.{statement}
+use Rattle.statements.proofs.element.Tie as tie
+
+subscript-at-requires : tie.Need-subscript-at-requires
+subscript-at-requires c κs = search needs
+
+enum-known-part : tie.Need-enum-known-part
+enum-known-part c = search needs
+
+enum-told : tie.Need-enum-told
+enum-told c = search needs
+
+returns : tie.Need-returns
+unfolding parseElement
+returns c = failing _ (got-failed _ (c .before .before .subscript-at .ensures) (c .enum-told .given .1)) (c .enum-told .given .1)
+
+store-requires : tie.Need-store-requires
+store-requires c κs = search needs
+
+same-length : tie.Need-same-length
+same-length c = search needs
+
+returns-2 : tie.Need-returns-2
+unfolding parseElement treeCell targetCell
+returns-2 c =
+    let known = c .before .before .before .before .before in
+    from-got _ (got-read (known .before .before .subscript-at .ensures) (known .part .given .1)) (stored-as _ _ _ _ _ (c .before .before .store .ensures))
+
+pub element-spec : {M : Type 1} → statement M
+element-spec =
+    tie.close
+    (tie.spec
+    subscript-at-requires
+    enum-known-part
+    enum-told
+    returns
+    store-requires
+    same-length
+    returns-2)

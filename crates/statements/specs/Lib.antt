@@ -1,0 +1,2 @@
+-- Statements, compiled.
+pub mod Forms
