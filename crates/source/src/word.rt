@@ -4,11 +4,10 @@ use crate::kind;
 use crate::run;
 use crate::run::Class;
 ghost use mathlib.Core.Path.{_≡_};
-ghost use mathlib.Core.List.{[]};
 ghost use Prim.Native.Nat.{_+_, _-_, _≤_, _<_};
-ghost use lib.ListN.{length, getD, take, drop};
+ghost use lib.ListN.{length, take, drop};
 ghost use Rattle.source.specs.Bytes.{isDigit, span, sameBytes};
-ghost use Rattle.source.specs.PointWords.{pointWords, wordLength, wordKind};
+ghost use Rattle.source.specs.PointWords.{wordLength, wordKind};
 ghost use Rattle.source.specs.Tokens.{wordToken};
 
 const COUNT: usize = 52;
@@ -94,25 +93,18 @@ fn same_part(word: &[u8], letters: &[u8], from: usize, to: usize) -> bool
     same(word, &letters[from..to])
 }
 
-// Whether a word is the point-word of a number, in the order of the kinds.
-fn is_word(word: &[u8], k: usize) -> bool
-    requires { ⌜ k < 52 ⌝ }
-    ensures { λ r. ⌜ r ≡ sameBytes (now (word .entry)) (getD pointWords k ([], 0) .0) ⌝ }
-{
-    let letters =
-        b"BEGINENDINTEGERCONSTANTCOMPCONSTANTARRAYNEXTSECTORPROCEDUREACCUMULATORIFTHENELSEWHENWHILEDOFORZEROANDNEVADDCINCNEGSSPSSMCHSCSANOTICLEFTCLEFTSWOPICRIGHTCRIGHTABSLGRARSARRLGLALSALRNONZEROPLUSMINUSODDEVENCSETNOTCSENSE1SENSE2SENSE3SENSE4ANYKEYNOKEY";
-    let from = STARTS[k];
-    let to = STARTS[k + 1];
-    same_part(word, letters, from, to)
-}
-
-// A word that is not in the table carries a failure, as an unknown byte does.
+// A word that is not in the table carries a failure, as an unknown byte does. The tables are made once, ahead of the loop.
 fn word_kind(word: &[u8]) -> u16
     ensures { λ r. ⌜ r ≡ wordKind (now (word .entry)) ⌝ }
 {
+    let letters =
+        b"BEGINENDINTEGERCONSTANTCOMPCONSTANTARRAYNEXTSECTORPROCEDUREACCUMULATORIFTHENELSEWHENWHILEDOFORZEROANDNEVADDCINCNEGSSPSSMCHSCSANOTICLEFTCLEFTSWOPICRIGHTCRIGHTABSLGRARSARRLGLALSALRNONZEROPLUSMINUSODDEVENCSETNOTCSENSE1SENSE2SENSE3SENSE4ANYKEYNOKEY";
+    let starts = STARTS;
     let mut k: usize = 0;
     while k < COUNT {
-        if is_word(word, k) {
+        let from = starts[k];
+        let to = starts[k + 1];
+        if same_part(word, letters, from, to) {
             return kind::BEGIN + k as u16;
         }
         k += 1;

@@ -1,23 +1,39 @@
--- `word::word_kind` meets its contract. The invariant: the words from `k` on decide. Assumes nothing.
-use mathlib.Core.Path.{_≡_, sym, _∙_}
+-- `word::word_kind` meets its contract, by the rules of the table. The invariant: the words from `k` on decide. Assumes nothing.
+use mathlib.Core.Path.{_≡_, sym, ap, _∙_}
 use Prim.Native.Nat.{_-_, _≤_}
 use borrow.Author.Needs.{needs}
+use Rattle.source.specs.Bytes.{sameBytes}
 use Rattle.source.specs.PointWords.{wordKind}
-use Rattle.source.proofs.Words.{kindFrom, from-first, found, next, none}
+use Rattle.source.proofs.Words.{in-order, in-letters, letters-of, kindFrom, from-first, found, next, none}
 use Rattle.source.proofs.word.word_kind.Statement.{statement}
 use Rattle.source.proofs.word.word_kind.Tie as tie
 
 abbrev Inv-loop : tie.InvT-loop
-Inv-loop word k₀ k = (k ≤ 52) × (wordKind word ≡ kindFrom word k)
+Inv-loop word letters starts k₀ k = (k ≤ 52) × (wordKind word ≡ kindFrom word k)
 
 abbrev μ-loop : tie.MeasureT-loop
-μ-loop word k₀ k = 52 - k
+μ-loop word letters starts k₀ k = 52 - k
 
 loop-holds : tie.Need-loop-holds Inv-loop μ-loop
 loop-holds c = (search needs, from-first _)
 
-is-word-requires : tie.Need-is-word-requires Inv-loop μ-loop
-is-word-requires c κs = search needs
+mul-from : tie.Need-mul-from Inv-loop μ-loop
+mul-from c = search needs
+
+array-read-from : tie.Need-array-read-from Inv-loop μ-loop
+array-read-from c = search needs
+
+add-to : tie.Need-add-to Inv-loop μ-loop
+add-to c = search needs
+
+mul-to : tie.Need-mul-to Inv-loop μ-loop
+mul-to c = search needs
+
+array-read-to : tie.Need-array-read-to Inv-loop μ-loop
+array-read-to c = search needs
+
+same-part-requires : tie.Need-same-part-requires Inv-loop μ-loop
+same-part-requires c κs = (in-order (c .before .before .loop .k) (c .before .loop-test .taken), in-letters (c .before .before .loop .k) (c .before .loop-test .taken))
 
 cast-result : tie.Need-cast-result Inv-loop μ-loop
 cast-result c = search needs
@@ -27,8 +43,8 @@ add-result c = search needs
 
 returns : tie.Need-returns Inv-loop μ-loop
 returns c =
-    let l = c .before .before .before in
-    sym (l .loop .inv .1 ∙ found _ (l .loop .k) (search needs) (sym (c .before .is-word .ensures) ∙ c .if1 .taken))
+    let letters = letters-of (c .before .before .before .before .loop .k) (c .before .before .before .loop-test .taken) in
+    sym (c .before .before .before .before .loop .inv .1 ∙ found _ (c .before .before .before .before .loop .k) (c .before .before .before .loop-test .taken) (ap (sameBytes (c .before .before .before .before .before .before .before .args .word .now)) (sym letters) ∙ sym (c .before .same-part .ensures) ∙ c .if1 .taken))
 
 add-k : tie.Need-add-k Inv-loop μ-loop
 add-k c = search needs
@@ -38,11 +54,11 @@ loop-less c = search needs
 
 loop-again : tie.Need-loop-again Inv-loop μ-loop
 loop-again c =
-    let l = c .before .before .before in
-    (search needs, l .loop .inv .1 ∙ next _ (l .loop .k) (search needs) (sym (c .before .is-word .ensures) ∙ c .if1 .left))
+    let letters = letters-of (c .before .before .before .before .loop .k) (c .before .before .before .loop-test .taken) in
+    (search needs, c .before .before .before .before .loop .inv .1 ∙ next _ (c .before .before .before .before .loop .k) (c .before .before .before .loop-test .taken) (ap (sameBytes (c .before .before .before .before .before .before .before .args .word .now)) (sym letters) ∙ sym (c .before .same-part .ensures) ∙ c .if1 .left))
 
 returns-2 : tie.Need-returns-2 Inv-loop μ-loop
-returns-2 c = sym (c .before .loop .inv .1 ∙ none _ (c .before .loop .k) (search needs))
+returns-2 c = sym (c .before .loop .inv .1 ∙ none _ (c .before .loop .k) (c .loop-test .left))
 
 pub word-kind-spec : {M : Type 1} → statement M
 word-kind-spec =
@@ -51,7 +67,12 @@ word-kind-spec =
     Inv-loop
     μ-loop
     loop-holds
-    is-word-requires
+    mul-from
+    array-read-from
+    add-to
+    mul-to
+    array-read-to
+    same-part-requires
     cast-result
     add-result
     returns
