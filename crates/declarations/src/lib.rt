@@ -5,7 +5,7 @@ mod limits;
 mod names;
 mod procedures;
 pub mod program;
-pub mod sectors;
+mod sectors;
 
 use cells::Part;
 use emitter::Output;

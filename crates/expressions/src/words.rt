@@ -1,8 +1,6 @@
 // The words that stand for an instruction: unary words, shift words and tests.
 use instruction::code;
-use instruction::slot;
 use source::kind;
-use word::shift;
 ghost use mathlib.Core.Path.{_≡_};
 ghost use Rattle.syntax.specs.Words.{unaries, operators, shifts, relations, tests, bares};
 ghost use Rattle.syntax.specs.Emission.{operatorCode, shiftKind, testSlot, bareSlot};

@@ -1,0 +1,2 @@
+-- Stored cases.
+pub mod Cases
