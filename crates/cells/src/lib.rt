@@ -29,6 +29,8 @@ use symbols::find;
 use symbols::is_x;
 use symbols::pack;
 
+pub mod failures;
+
 // Whether a part of the source was read, and up to where; or a failure's number and offset.
 pub enum Part {
     Read { next: usize },
@@ -120,10 +122,10 @@ fn failure(t: Token, number: u16) -> u16
     ensures { λ r. ⌜ r ≡ failureAt t number ⌝ }
 {
     if t.kind == kind::UNKNOWN {
-        return lower(4, number);
+        return lower(failures::UNKNOWN, number);
     }
     if t.kind == kind::OUT_OF_RANGE {
-        return lower(5, number);
+        return lower(failures::OUT_OF_RANGE, number);
     }
     number
 }
@@ -146,7 +148,7 @@ pub fn expect(source: &[u8], kind: u16, at: usize) -> Part
     if t.kind == kind {
         return Part::Read { next: t.next };
     }
-    fail_at(t, 6)
+    fail_at(t, failures::NOT_ALLOWED)
 }
 
 // A token that nothing allowed there begins with.
@@ -155,9 +157,9 @@ pub fn refuse_at(source: &[u8], at: usize) -> Part
 {
     let t = token_at(source, at);
     if t.kind == kind::NAME {
-        return fail_at(t, 7);
+        return fail_at(t, failures::WRONG_NAME);
     }
-    fail_at(t, 6)
+    fail_at(t, failures::NOT_ALLOWED)
 }
 
 // The id of a number at a level of the table.
@@ -254,7 +256,7 @@ pub fn amount_at(source: &[u8], table: &[u16], names: usize, at: usize) -> Const
         }
     }
     ConstantAnswer {
-        part: fail_at(token_at(source, at), 5),
+        part: fail_at(token_at(source, at), failures::OUT_OF_RANGE),
         value: 0,
     }
 }
@@ -282,7 +284,7 @@ pub fn size_at(source: &[u8], table: &[u16], names: usize, at: usize) -> Constan
         return read;
     }
     ConstantAnswer {
-        part: fail_at(token_at(source, at), 5),
+        part: fail_at(token_at(source, at), failures::OUT_OF_RANGE),
         value: 0,
     }
 }
@@ -441,7 +443,7 @@ pub fn lone_cell_at(source: &[u8], table: &[u16], names: usize, at: usize) -> Ce
     let t = operator_at(source, next);
     if t.kind == kind::MINUS_SIGN {
         return CellAnswer {
-            part: fail_at(t, 6),
+            part: fail_at(t, failures::NOT_ALLOWED),
             cell: no_cell(),
         };
     }
@@ -504,15 +506,15 @@ pub fn too_deep_at(source: &[u8], table: &[u16], names: usize, at: usize) -> Par
     let t = token_at(source, at);
     let kind = t.kind;
     match kind {
-        kind::IF => fail_at(t, 9),
-        kind::ADDC..=kind::ABS => fail_at(t, 9),
+        kind::IF => fail_at(t, failures::TOO_DEEP),
+        kind::ADDC..=kind::ABS => fail_at(t, failures::TOO_DEEP),
         _ => {
             let read = term_start_at(source, table, names, at);
             let part = read.part;
             let Part::Read { next: _ } = part else {
                 return part;
             };
-            fail_at(t, 9)
+            fail_at(t, failures::TOO_DEEP)
         }
     }
 }

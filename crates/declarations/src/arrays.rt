@@ -32,6 +32,7 @@ use cells::Part;
 use cells::constant_at;
 use cells::expect;
 use cells::fail_at;
+use cells::failures;
 use cells::size_at;
 use cells::size_of;
 use emitter::Output;
@@ -62,7 +63,7 @@ fn closing(source: &[u8], output: Output, size: u16, array: u16, at: usize) -> P
 {
     let t = token_at(source, at);
     if t.kind != RIGHT_BRACKET {
-        return fail_at(t, 6);
+        return fail_at(t, failures::NOT_ALLOWED);
     }
     pass_at(t, space_limit(output, size, array))
 }
@@ -145,7 +146,7 @@ fn values(
         if size <= count {
             let t = token_at(source, from);
             return ValuesAnswer {
-                part: fail_at(t, 14),
+                part: fail_at(t, failures::TOO_MANY_VALUES),
                 count,
             };
         }

@@ -24,6 +24,7 @@ use cells::ConstantAnswer;
 use cells::Part;
 use cells::constant_at;
 use cells::expect;
+use cells::failures;
 use emitter::store;
 use source::kind::COMMA;
 use source::kind::EQUAL;
@@ -37,7 +38,7 @@ pub fn name_limit(scope: Scope) -> u16
 {
     if scope.level == 0 {
         if 0o600 <= scope.words {
-            return 11;
+            return failures::NO_GLOBAL_LEFT;
         }
     }
     0

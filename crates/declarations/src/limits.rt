@@ -10,6 +10,7 @@ ghost use Rattle.declarations.specs.States.{spaceNumber, sectorNumber};
 use crate::names::pass_at;
 use cells::Part;
 use cells::expect;
+use cells::failures;
 use emitter::Output;
 use emitter::held_count;
 use source::Token;
@@ -22,7 +23,7 @@ pub fn space_limit(output: Output, size: u16, array: u16) -> u16
     if output.code as usize + held_count(pool) + size as usize <= array as usize {
         return 0;
     }
-    13
+    failures::MEMORY_FULL
 }
 
 // 12 where code and pending pool reach above their sector, the one after so many closed ones; then 13.
@@ -34,7 +35,7 @@ pub fn sector_limit(output: Output, sectors: usize, array: u16) -> u16
     if output.code as usize + held_count(pool) <= 512 * (sectors + 2) {
         return space_limit(output, 0, array);
     }
-    12
+    failures::SECTOR_FULL
 }
 
 // A limit judged at the last token of a part, and the token that must follow.

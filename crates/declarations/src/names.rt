@@ -15,6 +15,7 @@ use crate::NameAnswer;
 use crate::Scope;
 use cells::Part;
 use cells::fail_at;
+use cells::failures;
 use source::Token;
 use source::kind::NAME;
 use source::token_at;
@@ -58,13 +59,13 @@ fn name_failure(source: &[u8], table: &[u16], scope: Scope, limit: u16, at: usiz
 {
     let t = token_at(source, at);
     if t.kind != NAME {
-        return 6;
+        return failures::NOT_ALLOWED;
     }
     if is_taken(table, scope, symbols::pack(source, t)) {
-        return 8;
+        return failures::NAME_TAKEN;
     }
     if 512 <= scope.names {
-        return 10;
+        return failures::TOO_MANY_NAMES;
     }
     limit
 }

@@ -32,6 +32,7 @@ use crate::names::new_name;
 use cells::Part;
 use cells::expect;
 use cells::fail_at;
+use cells::failures;
 use emitter::Context;
 use emitter::Output;
 use emitter::emit_return;
@@ -250,7 +251,7 @@ pub fn ended(
 {
     let last = token_at(source, at);
     if last.kind != END {
-        return fail_at(last, 6);
+        return fail_at(last, failures::NOT_ALLOWED);
     }
     judged(source, last, sector_limit(output, sectors, array), kind)
 }

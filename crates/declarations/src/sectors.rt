@@ -15,6 +15,7 @@ use crate::State;
 use crate::limits::judged;
 use crate::limits::sector_limit;
 use cells::Part;
+use cells::failures;
 use emitter::Output;
 use emitter::Pool;
 use emitter::empty_pool;
@@ -62,7 +63,7 @@ fn next_limit(state: State) -> u16
     if sectors < 30 {
         return 0;
     }
-    13
+    failures::MEMORY_FULL
 }
 
 // The open sector closed, its pool after its code.

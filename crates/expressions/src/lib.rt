@@ -7,6 +7,7 @@ use cells::cell_at;
 use cells::cell_from;
 use cells::expect;
 use cells::fail_at;
+use cells::failures;
 use cells::lone_cell_at;
 use cells::term_start_at;
 use cells::too_deep_at;
@@ -383,7 +384,7 @@ fn comparison(
             hole: last.hole,
         };
     }
-    let part = fail_at(t, 6);
+    let part = fail_at(t, failures::NOT_ALLOWED);
     Tested {
         part,
         output,

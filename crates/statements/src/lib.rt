@@ -5,6 +5,7 @@ use cells::StatementStart as Start;
 use cells::Symbol;
 use cells::expect;
 use cells::fail_at;
+use cells::failures;
 use cells::lone_cell_at;
 use cells::refuse_at;
 use cells::statement_start_at;
@@ -446,7 +447,7 @@ fn statement(
         return Answer { part, output };
     };
     if left == 0 {
-        let part = fail_at(t, 9);
+        let part = fail_at(t, failures::TOO_DEEP);
         return Answer { part, output };
     }
     let start = found.start;
