@@ -106,5 +106,5 @@ demand3-called source image scratch image' scratch' r call e w g q =
       program = a .0;
       defined = d;
       agrees = λ σ m memory l. called (demand3 source _ d σ _ l);
-      loadable = loading.loadable source _ d;
+      loads = loading.loadable source _ d;
     }

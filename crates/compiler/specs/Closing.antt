@@ -17,7 +17,7 @@ use Rattle.emission.specs.Compile.{Compiled, Result, compileDef}
 use Rattle.semantics.specs.Trace.{State}
 use Rattle.semantics.specs.Meaning.{meaning}
 use Rattle.semantics.specs.Variables.{variablesOf}
-use Rattle.semantics.specs.Agreement.{Start, Loaded, Shows, Home, Observes, Ends, Breaks, RunsOut, Begins, Rising, Meets}
+use Rattle.semantics.specs.Agreement.{Loaded, Loads, Shows, Home, Observes, Ends, Breaks, RunsOut, Begins, Rising, Meets}
 use Rattle.compiler.specs.declared.Answer.{Answer}
 use Rattle.compiler.specs.Compile.{resultOn, answerOf, imageAfter}
 
@@ -86,8 +86,8 @@ pub record Accepted (source image : List ℕ) (entry words globals : ℕ) : Type
   pub defined : compileDef source ≡ Result.accepted (delivered program image entry words globals)
   -- "its image loaded, its integers and array cells, A, B, C, X and keys given any values, and the machine set at the entry"
   pub agrees : (σ : State) (m : Machine) (memory : List ℕ) → Loaded (delivered program image entry words globals) σ (machine.state m memory) → AgreesCalled program σ m memory
-  -- and such machines exist, whatever the start
-  pub loadable : (σ : State) → Start program σ → (s : machine.State) × Loaded (delivered program image entry words globals) σ s
+  -- and such machines exist: the image itself is such a memory, and so it is with any values for the variables
+  pub loads : Loads (delivered program image entry words globals)
 
 -- "Suppose a recipe is accepted"
 unfoldable pub Demand3Called : Type 0

@@ -18,4 +18,5 @@ pub mod Here
 pub mod Closing
 pub mod Stands
 pub mod Homes
+pub mod Apart
 pub mod Placement

@@ -6,6 +6,7 @@ use mathlib.Core.List.{List, List·Memᴰ}
 use lib.ListN.{length, getD}
 use Rattle.machine.specs.declared.Clock.{Clock}
 use Rattle.machine.specs.declared.Request.{Request}
+use Rattle.machine.specs.declared.Machine.{Machine}
 use Rattle.machine.specs.State as machine
 use Rattle.runs.specs.Runs.{Total, runsDef, budgetsOf}
 use Rattle.syntax.specs.Tree.{CellId, Program}
@@ -121,6 +122,19 @@ pub record Agrees (p : Program) (σ : State) (s : machine.State) : Type 0 where
 unfoldable pub Demand3 : Type 0
 Demand3 = (source : List ℕ) (c : Compiled) → compileDef source ≡ Result.accepted c → (σ : State) (s : machine.State) → Loaded c σ s → Agrees (c .program) σ s
 
--- and such machines exist: whatever the start, one is loaded with it
+-- ---- Such machines exist
+
+-- a word of memory before the start: the image's, or anything where a variable stands
+pub data Fills (c : Compiled) (k word : ℕ) : Type 0 where
+  laid : word ≡ getD (c .image) k 0 → Fills c k word
+  given : (i : CellId) (v : ℕ) → List·Memᴰ i (variablesOf (c .program)) → getD (mapOf (c .program)) k Word.free ≡ Word.cell i v → Fills c k word
+
+pub record Loads (c : Compiled) : Type 0 where
+  -- a machine set at the entry, its memory the image with any values for the variables: it is loaded with a start. The image as it is fills itself
+  pub filled : (m : Machine) (memory : List ℕ) → length memory ≡ 16384 → ((k : ℕ) → k < 16384 → Fills c k (getD memory k 0)) → m .p ≡ c .entry → m .halted ≡ false
+      → (σ : State) × Loaded c σ (machine.state m memory)
+  -- and every start has a machine that is loaded with it
+  pub started : (σ : State) → Start (c .program) σ → (s : machine.State) × Loaded c σ s
+
 unfoldable pub Loadable : Type 0
-Loadable = (source : List ℕ) (c : Compiled) → compileDef source ≡ Result.accepted c → (σ : State) → Start (c .program) σ → (s : machine.State) × Loaded c σ s
+Loadable = (source : List ℕ) (c : Compiled) → compileDef source ≡ Result.accepted c → Loads c

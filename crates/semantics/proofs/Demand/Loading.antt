@@ -1,16 +1,23 @@
--- A machine can be loaded with every accepted program and every start. Assumes nothing.
-use Prim.Native.Nat.{ℕ}
+-- A machine can be loaded with every accepted program and every start, and every memory that is filled is loaded with one. Assumes nothing.
+use Prim.Native.Nat.{ℕ, zero, suc, _<_}
 use mathlib.Core.Path.{_≡_, refl, sym, ap, subst, _∙_}
-use mathlib.Core.Bool.{false}
-use mathlib.Core.List.{map}
-use lib.ListN.{getD, length-map, List·getD-map}
+use mathlib.Core.Bool.{Bool, true, false, cond}
+use mathlib.Core.List.{List, [], _∷_, map, List·Memᴰ}
+use lib.ListN.{length, getD, length-map, List·getD-map}
+use Rattle.machine.specs.declared.Machine.{Machine}
 use Rattle.machine.specs.State as machine
-use Rattle.syntax.specs.Tree.{Program}
+use Rattle.syntax.specs.Tree.{CellId, Program, sameCell}
 use Rattle.emission.specs.Map.{Word, initial, mapOf, imageOf}
 use Rattle.emission.specs.Compile.{Compiled, compiled}
 use Rattle.semantics.specs.Trace.{State}
-use Rattle.semantics.specs.Agreement.{Holds, Start, Loaded, Loadable}
+use Rattle.semantics.specs.Variables.{variablesOf, constantsOf}
+use Rattle.semantics.specs.Agreement.{Holds, Start, Loaded, Fills, Loadable}
+use Rattle.semantics.specs.Known.{mapAt}
+use Rattle.semantics.proofs.MemoryMap.Unique.{once}
 use Rattle.semantics.proofs.MemoryMap.Here.{map-length}
+use Rattle.semantics.proofs.MemoryMap.Apart.{apart}
+use Rattle.semantics.proofs.MemoryMap.Placement.{constant-home}
+use Rattle.semantics.proofs.Simulation.Cells.{same-cell, self-cell}
 use Rattle.semantics.proofs.Acceptance.Accepted.{Accepted, accepted}
 
 -- a word as the start has it
@@ -51,6 +58,95 @@ loaded c a σ start = record {
   running = refl;
 }
 
+-- ---- A memory that is filled
+
+-- the address of a cell
+isCell : CellId → Word → Bool
+isCell i (Word.fixed w) = false
+isCell i (Word.cell j v) = sameCell j i
+isCell i (Word.link p) = false
+isCell i Word.free = false
+
+homeOf : CellId → List Word → ℕ
+homeOf i [] = 0
+homeOf i (w ∷ ws) = cond (isCell i w) 0 (suc (homeOf i ws))
+
+held-cell : (i : CellId) (w : Word) → isCell i w ≡ true → w ≡ Word.cell i (initial w)
+unfolding isCell
+held-cell i (Word.fixed w) e = cc
+held-cell i (Word.cell j v) e = ap (λ (c : CellId). Word.cell c v) (same-cell j i e)
+held-cell i (Word.link p) e = cc
+held-cell i Word.free e = cc
+
+-- a cell that stands somewhere is found
+abbrev Found : CellId → List Word → ℕ → Type 0
+Found i ws k = getD ws k Word.free ≡ Word.cell i (initial (getD ws k Word.free))
+
+found : (i : CellId) (v : ℕ) (ws : List Word) (k : ℕ) → getD ws k Word.free ≡ Word.cell i v → Found i ws (homeOf i ws)
+unfolding homeOf isCell
+found i v [] k e = cc
+found i v (w ∷ ws) k e = by-test (isCell i w) refl k e (found i v ws)
+  where
+    by-test : (b : Bool) → isCell i w ≡ b → (k : ℕ) → getD (w ∷ ws) k Word.free ≡ Word.cell i v
+        → ((k : ℕ) → getD ws k Word.free ≡ Word.cell i v → Found i ws (homeOf i ws)) → Found i (w ∷ ws) (cond (isCell i w) 0 (suc (homeOf i ws)))
+    by-test true t k e ih = subst (λ (b : Bool). Found i (w ∷ ws) (cond b 0 (suc (homeOf i ws)))) (sym t) (held-cell i w t)
+    by-test false t zero e ih = let u : isCell i w ≡ true = ap (isCell i) e ∙ self-cell i in cc
+    by-test false t (suc k) e ih = subst (λ (b : Bool). Found i (w ∷ ws) (cond b 0 (suc (homeOf i ws)))) (sym t) (ih k e)
+
+module _ (c : Compiled) (a : Accepted c) (m : Machine) (memory : List ℕ) (fills : (k : ℕ) → k < 16384 → Fills c k (getD memory k 0)) where
+  abbrev p : Program
+  p = c .program
+
+  -- the start that a memory has
+  startOf : State
+  startOf = record { cells = λ i. getD memory (homeOf i (mapOf p)) 0; registers = m .registers; switches = m .switches; steps = 0 }
+
+  at-home : (i : CellId) (v k : ℕ) → mapAt p k ≡ Word.cell i v → getD memory k 0 ≡ startOf .cells i
+  unfolding startOf
+  at-home i v k e =
+      ap (λ (n : ℕ). getD memory n 0) (once p (a .well-formed) k (homeOf i (mapOf p)) i v (initial (mapAt p (homeOf i (mapOf p)))) e (found i v (mapOf p) k e))
+
+  laid-value : (k : ℕ) → getD (c .image) k 0 ≡ initial (mapAt p k)
+  laid-value k = ap (λ (d : Compiled). getD (d .image) k 0) (a .is) ∙ image-is p k
+
+  -- a constant's word is as it was laid, since no variable stands there
+  constant-kept : (i : CellId) (v : ℕ) → List·Memᴰ (i, v) (constantsOf p) → startOf .cells i ≡ v
+  constant-kept i v h =
+      let s = constant-home p (a .well-formed) (i, v) h in
+      sym (at-home i v (s .at) (s .here)) ∙ by-word (s .at) (s .here) (fills (s .at) (s .below))
+    where
+      by-word : (k : ℕ) → mapAt p k ≡ Word.cell i v → Fills c k (getD memory k 0) → getD memory k 0 ≡ v
+      by-word k e (Fills.laid l) = l ∙ laid-value k ∙ ap initial e
+      by-word k e (Fills.given j u n f) =
+          let same : j ≡ i = cc in
+          absurd (apart p i v (subst (λ (d : CellId). List·Memᴰ d (variablesOf p)) same n) h)
+
+  as-held : (k : ℕ) → Fills c k (getD memory k 0) → (w : Word) → mapAt p k ≡ w → Holds startOf w (getD (c .image) k 0) (getD memory k 0)
+  as-held k (Fills.laid l) (Word.fixed w) e = l
+  as-held k f (Word.cell i v) e = at-home i v k e
+  as-held k (Fills.laid l) (Word.link q) e = l
+  as-held k (Fills.laid l) Word.free e = l
+  as-held k (Fills.given i u n f) (Word.fixed w) e = cc
+  as-held k (Fills.given i u n f) (Word.link q) e = cc
+  as-held k (Fills.given i u n f) Word.free e = cc
+
+  filled : length memory ≡ 16384 → m .p ≡ c .entry → m .halted ≡ false → Loaded c startOf (machine.state m memory)
+  unfolding startOf
+  filled size entry running = record {
+    start = record { constants = constant-kept; begins = refl };
+    size = size;
+    image = λ k l. as-held k (fills k l) (mapAt p k) refl;
+    registers = refl;
+    switches = refl;
+    entry = entry;
+    running = running;
+  }
+
 pub loadable : Loadable
 unfolding Loadable
-loadable source c e σ start = (loadedWith c σ, loaded c (accepted source c e) σ start)
+loadable source c e =
+    let a = accepted source c e in
+    record {
+      filled = λ m memory size fills entry running. (startOf c a m memory fills, filled c a m memory fills size entry running);
+      started = λ σ start. (loadedWith c σ, loaded c a σ start);
+    }

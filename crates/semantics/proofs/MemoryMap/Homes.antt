@@ -1,4 +1,4 @@
--- Every global and every variable of a program has its word in the map. Assumes nothing.
+-- Every global, every variable and every named constant of a program has its word in the map. Assumes nothing.
 use Prim.Native.Nat.{ℕ, zero, suc, _+_, _-_, _<_}
 use mathlib.Core.Path.{_≡_, refl, sym, ap, _∙_, subst}
 use mathlib.Core.Bool.{Bool}
@@ -9,13 +9,13 @@ use lib.ListN.{length, getD}
 use Rattle.syntax.specs.Tree.{Id, CellId, Name, Item, Stmts, Declaration, Program}
 use Rattle.syntax.specs.State.{State, localWords, step}
 use Rattle.emission.specs.Map.{Word, itemWords, localItems}
-use Rattle.semantics.specs.Variables.{itemVariables, wordsOf, localsBy, elementsOf, declaredBy}
-use Rattle.semantics.specs.WellFormed.{Kind, kindsOf}
+use Rattle.semantics.specs.Variables.{itemVariables, itemConstants, wordsOf, localsBy, elementsOf, declaredBy}
+use Rattle.semantics.specs.WellFormed.{Kind, itemKinds, kindsOf}
 use Rattle.semantics.specs.Laid.{ArrayWord, ProcedureWord}
 use Rattle.semantics.specs.Known.{mapAt}
 use Rattle.semantics.proofs.MemoryMap.Items.{local-length}
 use Rattle.semantics.proofs.MemoryMap.Here.{Here, words-on, placing, next}
-use Rattle.semantics.proofs.MemoryMap.Stands.{CellAt, item-word, array-low, element-at, array-word, code-room, local-word, procedure-word}
+use Rattle.semantics.proofs.MemoryMap.Stands.{CellAt, item-laid, array-low, element-at, array-word, code-room, local-laid, procedure-word}
 
 -- ---- Globals
 
@@ -29,15 +29,15 @@ pub global-as : (p : Program) (k : Kind) (a b : ℕ) → a ≡ b → GlobalAt p 
 global-as p k a b e h = subst (λ (n : ℕ). GlobalAt p n k) e h
 
 -- an item's word is a cell
-item-cell : (p : Program) (st : State) (ks : List Kind) (ds : List Declaration) (m : List Word) (name : Name) → Here p st ks (Declaration.item name Item.integer ∷ ds) m
+integer-cell : (p : Program) (st : State) (ks : List Kind) (ds : List Declaration) (m : List Word) (name : Name) → Here p st ks (Declaration.item name Item.integer ∷ ds) m
     → CellAt p (st .scope .words)
 unfolding itemWords
-item-cell p st ks ds m name h = item-word p st ks ds m name Item.integer 0 refl h
+integer-cell p st ks ds m name h = let l = item-laid p st ks ds m name Item.integer refl h in record { value = 0; few = l .0; is = l .1 }
 
 constant-cell : (p : Program) (st : State) (ks : List Kind) (ds : List Declaration) (m : List Word) (name : Name) (v : ℕ) → Here p st ks (Declaration.item name (Item.constant v) ∷ ds) m
     → CellAt p (st .scope .words)
 unfolding itemWords
-constant-cell p st ks ds m name v h = item-word p st ks ds m name (Item.constant v) v refl h
+constant-cell p st ks ds m name v h = let l = item-laid p st ks ds m name (Item.constant v) refl h in record { value = v; few = l .0; is = l .1 }
 
 module _ (p : Program) where
   abbrev Globals : List Declaration → Type 0
@@ -52,7 +52,7 @@ module _ (p : Program) where
   pub globals : (ds : List Declaration) → Globals ds
   unfolding kindsOf
   globals [] st ks m h i = tt
-  globals (Declaration.item name Item.integer ∷ ds) st ks m h zero = global-as p Kind.cell (st .scope .words) (st .scope .words + 0) (omega arith) (item-cell p st ks ds m name h)
+  globals (Declaration.item name Item.integer ∷ ds) st ks m h zero = global-as p Kind.cell (st .scope .words) (st .scope .words + 0) (omega arith) (integer-cell p st ks ds m name h)
   globals (Declaration.item name Item.integer ∷ ds) st ks m h (suc i) = on (Declaration.item name Item.integer) ds (globals ds) st ks m h i (suc i) (omega arith)
   globals (Declaration.item name (Item.constant v) ∷ ds) st ks m h zero =
       global-as p Kind.cell (st .scope .words) (st .scope .words + 0) (omega arith) (constant-cell p st ks ds m name v h)
@@ -67,6 +67,108 @@ module _ (p : Program) where
       on (Declaration.procedure name accumulator locals body) ds (globals ds) st ks m h i (suc i) (omega arith)
   globals (Declaration.nextSector ∷ ds) st ks m h i = on Declaration.nextSector ds (globals ds) st ks m h i i (omega arith)
 
+-- ---- All that is declared
+
+pub either : {A R : Type 0} {a : A} (s : List A) {t : List A} → (List·Memᴰ a s → R) → (List·Memᴰ a t → R) → List·Memᴰ a (s ++ t) → R
+either {R = R} {a = a} s {t} f g h = go (List·Memᴰ·append-cases s h)
+  where
+    go : List·Memᴰ a s ⊎ List·Memᴰ a t → R
+    go (inl x) = f x
+    go (inr x) = g x
+
+-- what holds of everything listed for a program's declarations, if it holds of what is listed for an item whose word stands at an address, and of what is listed for an array
+module _ (p : Program) {A : Type 0} (cells : Id → Item → List A) (elements : ℕ → ℕ → List A) (Q : A → Type 0)
+    (nothing : (i : Id) (v : ℕ) (a : A) → List·Memᴰ a (cells i (Item.compconstant v)) → ⊥)
+    (of-item : (i : Id) (item : Item) (a : A) → List·Memᴰ a (cells i item) → (at : ℕ) → at < 16384 → mapAt p at ≡ getD (itemWords i item) 0 Word.free → Q a)
+    (of-array : (st : State) (ks : List Kind) (ds : List Declaration) (m : List Word) (name : Name) (size : ℕ) (values : List ℕ)
+    → Here p st ks (Declaration.array name size values ∷ ds) m → (a : A) → List·Memᴰ a (elements (st .scope .words) size) → Q a)
+  where
+    -- which of a procedure's local words, from the nth on, something is listed for
+    record Which (q n : ℕ) (ws : List Word) (a : A) : Type 0 where
+      j : ℕ
+      item : Item
+      below : j < length ws
+      listed : List·Memᴰ a (cells (Id.local q (n + j)) item)
+      word : getD ws j Word.free ≡ getD (itemWords (Id.local q (n + j)) item) 0 Word.free
+
+    first : (q n : ℕ) (item : Item) (w : Word) (ws : List Word) (a : A) → itemWords (Id.local q n) item ≡ w ∷ [] → List·Memᴰ a (cells (Id.local q n) item) → Which q n (w ∷ ws) a
+    first q n item w ws a e h =
+        let z : n ≡ n + 0 = omega arith in
+        record {
+          j = 0;
+          item = item;
+          below = omega arith;
+          listed = subst (λ (k : ℕ). List·Memᴰ a (cells (Id.local q k) item)) z h;
+          word = sym (ap (λ (l : List Word). getD l 0 Word.free) e) ∙ ap (λ (k : ℕ). getD (itemWords (Id.local q k) item) 0 Word.free) z;
+        }
+
+    later : (q n : ℕ) (w : Word) (ws : List Word) (a : A) → Which q (n + 1) ws a → Which q n (w ∷ ws) a
+    later q n w ws a h =
+        let z : n + 1 + h .j ≡ n + suc (h .j) = omega arith in
+        record {
+          j = suc (h .j);
+          item = h .item;
+          below = omega (arith, h .below);
+          listed = subst (λ (k : ℕ). List·Memᴰ a (cells (Id.local q k) (h .item))) z (h .listed);
+          word = h .word ∙ ap (λ (k : ℕ). getD (itemWords (Id.local q k) (h .item)) 0 Word.free) z;
+        }
+
+    which : (q n : ℕ) (ls : List (Name × Item)) (a : A) → List·Memᴰ a (localsBy cells q n ls) → Which q n (localItems q n ls) a
+    unfolding localsBy wordsOf localItems itemWords
+    which q n [] a h = absurd (List·Memᴰ·not-nil h)
+    which q n ((name, Item.integer) ∷ ls) a h =
+        either (cells (Id.local q n) Item.integer) (first q n Item.integer _ _ a refl) (λ x. later q n _ _ a (which q (n + 1) ls a x)) h
+    which q n ((name, Item.constant v) ∷ ls) a h =
+        either (cells (Id.local q n) (Item.constant v)) (first q n (Item.constant v) _ _ a refl) (λ x. later q n _ _ a (which q (n + 1) ls a x)) h
+    which q n ((name, Item.compconstant v) ∷ ls) a h =
+        let z : n + 0 ≡ n = omega arith in
+        either (cells (Id.local q n) (Item.compconstant v)) (λ x. absurd (nothing (Id.local q n) v a x))
+        (λ x. subst (λ (k : ℕ). Which q k (localItems q (n + 0) ls) a) z (which q (n + 0) ls a x)) h
+
+    abbrev Holding : List Declaration → Type 0
+    Holding ds = (st : State) (ks : List Kind) (m : List Word) → Here p st ks ds m → (n : ℕ) → n ≡ st .scope .words → (a : A) → List·Memᴰ a (declaredBy cells elements n ds) → Q a
+
+    further : (d : Declaration) (ds : List Declaration) → Holding ds → (st : State) (ks : List Kind) (m : List Word) → Here p st ks (d ∷ ds) m
+        → (n : ℕ) → n ≡ st .scope .words + length (kindsOf (d ∷ [])) → (a : A) → List·Memᴰ a (declaredBy cells elements n ds) → Q a
+    further d ds below st ks m h n e a = below (step st d) (ks ++ kindsOf (d ∷ [])) (placing p st d m) (next p st ks d ds m h) n (e ∙ sym (words-on st d)) a
+
+    module _ (st : State) (ks : List Kind) (ds : List Declaration) (m : List Word) where
+      of-global : (name : Name) (item : Item) → length (itemKinds item) ≡ 1 → Here p st ks (Declaration.item name item ∷ ds) m
+          → (n : ℕ) → n ≡ st .scope .words → (a : A) → List·Memᴰ a (cells (Id.global n) item) → Q a
+      of-global name item one h n e a k =
+          let l = item-laid p st ks ds m name item one h in
+          of-item (Id.global (st .scope .words)) item a (subst (λ (j : ℕ). List·Memᴰ a (cells (Id.global j) item)) e k) (0o200 + st .scope .words) (omega (arith, l .0)) (l .1)
+
+      of-procedure : (name : Name) (accumulator : Bool) (locals : List (Name × Item)) (body : Stmts) → Here p st ks (Declaration.procedure name accumulator locals body ∷ ds) m
+          → (n : ℕ) → n ≡ st .scope .words → (a : A) → List·Memᴰ a (localsBy cells n 0 locals) → Q a
+      of-procedure name accumulator locals body h n e a k =
+          let own = st .scope .words in
+          let q = which own 0 locals a (subst (λ (j : ℕ). List·Memᴰ a (localsBy cells j 0 locals)) e k) in
+          let l : q .j < localWords st name locals = omega (arith, q .below, local-length st name own locals) in
+          of-item (Id.local own (0 + q .j)) (q .item) a (q .listed) (st .code + q .j)
+          (omega (arith, code-room p st ks ds m name accumulator locals body h .0, h .room .top))
+          (local-laid p st ks ds m name accumulator locals body h (q .j) l ∙ q .word)
+
+    pub everything : (ds : List Declaration) → Holding ds
+    unfolding declaredBy wordsOf kindsOf
+    everything [] st ks m h n e a k = absurd (List·Memᴰ·not-nil k)
+    everything (Declaration.item name Item.integer ∷ ds) st ks m h n e a k =
+        either (cells (Id.global n) Item.integer) (of-global st ks ds m name Item.integer refl h n e a)
+        (further (Declaration.item name Item.integer) ds (everything ds) st ks m h (n + 1) (omega arith) a) k
+    everything (Declaration.item name (Item.constant v) ∷ ds) st ks m h n e a k =
+        either (cells (Id.global n) (Item.constant v)) (of-global st ks ds m name (Item.constant v) refl h n e a)
+        (further (Declaration.item name (Item.constant v)) ds (everything ds) st ks m h (n + 1) (omega arith) a) k
+    everything (Declaration.item name (Item.compconstant v) ∷ ds) st ks m h n e a k =
+        either (cells (Id.global n) (Item.compconstant v)) (λ x. absurd (nothing (Id.global n) v a x))
+        (further (Declaration.item name (Item.compconstant v)) ds (everything ds) st ks m h (n + 0) (omega arith) a) k
+    everything (Declaration.array name size values ∷ ds) st ks m h n e a k =
+        either (elements n size) (λ x. of-array st ks ds m name size values h a (subst (λ (j : ℕ). List·Memᴰ a (elements j size)) e x))
+        (further (Declaration.array name size values) ds (everything ds) st ks m h (suc n) (omega arith) a) k
+    everything (Declaration.procedure name accumulator locals body ∷ ds) st ks m h n e a k =
+        either (localsBy cells n 0 locals) (of-procedure st ks ds m name accumulator locals body h n e a)
+        (further (Declaration.procedure name accumulator locals body) ds (everything ds) st ks m h (suc n) (omega arith) a) k
+    everything (Declaration.nextSector ∷ ds) st ks m h n e a k = further Declaration.nextSector ds (everything ds) st ks m h n (omega arith) a k
+
 -- ---- Variables
 
 pub record Stood (p : Program) (i : CellId) : Type 0 where
@@ -75,7 +177,7 @@ pub record Stood (p : Program) (i : CellId) : Type 0 where
   pub below : at < 16384
   pub here : mapAt p at ≡ Word.cell i value
 
--- which element, or which local, a variable is
+-- which element a variable is
 record Element (number subscript n : ℕ) (i : CellId) : Type 0 where
   j : ℕ
   below : j < n
@@ -94,103 +196,53 @@ which-element number subscript (suc n) i h = go (which-element number (suc subsc
         let z : suc subscript + q .j ≡ subscript + suc (q .j) = omega arith in
         record { j = suc (q .j); below = omega (arith, q .below); is = q .is ∙ ap (λ (s : ℕ). CellId.element number s) z }
 
-record Which (p n : ℕ) (ls : List (Name × Item)) (i : CellId) : Type 0 where
-  j : ℕ
-  below : j < length (localItems p n ls)
-  is : i ≡ CellId.named (Id.local p (n + j))
-
-which-local : (p n : ℕ) (ls : List (Name × Item)) (i : CellId) → List·Memᴰ i (localsBy itemVariables p n ls) → Which p n ls i
-unfolding localsBy itemVariables wordsOf localItems itemWords
-which-local p n [] i h = absurd (List·Memᴰ·not-nil h)
-which-local p n ((name, Item.integer) ∷ ls) i h = go (which-local p (n + 1) ls i) (List·Memᴰ·cases-cons h)
-  where
-    go : (List·Memᴰ i (localsBy itemVariables p (n + 1) ls) → Which p (n + 1) ls i)
-        → (i ≡ CellId.named (Id.local p n)) ⊎ List·Memᴰ i (localsBy itemVariables p (n + 1) ls) → Which p n ((name, Item.integer) ∷ ls) i
-    go ih (inl e) = let z : n ≡ n + 0 = omega arith in record { j = 0; below = omega arith; is = e ∙ ap (λ (k : ℕ). CellId.named (Id.local p k)) z }
-    go ih (inr r) =
-        let q = ih r in
-        let z : n + 1 + q .j ≡ n + suc (q .j) = omega arith in
-        record { j = suc (q .j); below = omega (arith, q .below); is = q .is ∙ ap (λ (k : ℕ). CellId.named (Id.local p k)) z }
-which-local p n ((name, Item.constant v) ∷ ls) i h =
-    let q = which-local p (n + 1) ls i h in
-    let z : n + 1 + q .j ≡ n + suc (q .j) = omega arith in
-    record { j = suc (q .j); below = omega (arith, q .below); is = q .is ∙ ap (λ (k : ℕ). CellId.named (Id.local p k)) z }
-which-local p n ((name, Item.compconstant v) ∷ ls) i h =
-    let q = which-local p (n + 0) ls i h in
-    let z : n + 0 + q .j ≡ n + q .j = omega arith in
-    record { j = q .j; below = q .below; is = q .is ∙ ap (λ (k : ℕ). CellId.named (Id.local p k)) z }
-
 module _ (p : Program) where
-  abbrev cells : ℕ → List Declaration → List CellId
-  cells n ds = declaredBy itemVariables (λ number size. elementsOf number (65536 - size) size) n ds
+  of-integer : (i : Id) (item : Item) (c : CellId) → List·Memᴰ c (itemVariables i item) → (at : ℕ) → at < 16384 → mapAt p at ≡ getD (itemWords i item) 0 Word.free → Stood p c
+  unfolding itemVariables itemWords
+  of-integer i Item.integer c h at l e = record { at = at; value = 0; below = l; here = e ∙ ap (λ (d : CellId). Word.cell d 0) (sym (List·Memᴰ·eq-of-singleton h)) }
+  of-integer i (Item.constant v) c h at l e = absurd (List·Memᴰ·not-nil h)
+  of-integer i (Item.compconstant v) c h at l e = absurd (List·Memᴰ·not-nil h)
 
-  stood-as : {i j : CellId} → i ≡ j → Stood p j → Stood p i
-  stood-as e h = subst (Stood p) (sym e) h
+  of-element : (st : State) (ks : List Kind) (ds : List Declaration) (m : List Word) (name : Name) (size : ℕ) (values : List ℕ)
+      → Here p st ks (Declaration.array name size values ∷ ds) m → (i : CellId) → List·Memᴰ i (elementsOf (st .scope .words) (65536 - size) size) → Stood p i
+  of-element st ks ds m name size values h i k =
+      let q = which-element (st .scope .words) (65536 - size) size i k in
+      let l : q .j < size = q .below in
+      record {
+        at = st .array - size + q .j;
+        value = getD values (q .j) 0;
+        below = omega (arith, array-low p st ks ds m name size values h, h .room .top);
+        here = element-at p st ks ds m name size values h (q .j) l ∙ ap (λ (c : CellId). Word.cell c (getD values (q .j) 0)) (sym (q .is));
+      }
 
-  abbrev Homes : List Declaration → Type 0
-  Homes ds = (st : State) (ks : List Kind) (m : List Word) → Here p st ks ds m → (n : ℕ) → n ≡ st .scope .words → (i : CellId) → List·Memᴰ i (cells n ds) → Stood p i
+  no-variable : (i : Id) (v : ℕ) (c : CellId) → List·Memᴰ c (itemVariables i (Item.compconstant v)) → ⊥
+  unfolding itemVariables
+  no-variable i v c h = List·Memᴰ·not-nil h
 
-  further : (d : Declaration) (ds : List Declaration) → Homes ds → (st : State) (ks : List Kind) (m : List Word) → Here p st ks (d ∷ ds) m
-      → (n : ℕ) → n ≡ st .scope .words + length (kindsOf (d ∷ [])) → (i : CellId) → List·Memᴰ i (cells n ds) → Stood p i
-  further d ds below st ks m h n e i = below (step st d) (ks ++ kindsOf (d ∷ [])) (placing p st d m) (next p st ks d ds m h) n (e ∙ sym (words-on st d)) i
+  pub variables : (st : State) (ks : List Kind) (m : List Word) → Here p st ks (p .declarations) m → 0 ≡ st .scope .words
+      → (i : CellId) → List·Memᴰ i (declaredBy itemVariables (λ number size. elementsOf number (65536 - size) size) 0 (p .declarations)) → Stood p i
+  variables st ks m h e =
+      everything p itemVariables (λ number size. elementsOf number (65536 - size) size) (Stood p) no-variable of-integer of-element (p .declarations) st ks m h 0 e
 
-  module _ (st : State) (ks : List Kind) (ds : List Declaration) (m : List Word) where
-    of-integer : (name : Name) → Here p st ks (Declaration.item name Item.integer ∷ ds) m → (n : ℕ) → n ≡ st .scope .words → Stood p (CellId.named (Id.global n))
-    of-integer name h n e =
-        let c = item-cell p st ks ds m name h in
-        record { at = 0o200 + st .scope .words; value = c .value; below = omega (arith, c .few); here = c .is ∙ ap (λ (k : ℕ). Word.cell (CellId.named (Id.global k)) (c .value)) (sym e) }
+  -- ---- Constants
 
-    of-array : (name : Name) (size : ℕ) (values : List ℕ) → Here p st ks (Declaration.array name size values ∷ ds) m → (n : ℕ) → n ≡ st .scope .words
-        → (i : CellId) → List·Memᴰ i (elementsOf n (65536 - size) size) → Stood p i
-    of-array name size values h n e i k =
-        let q = which-element n (65536 - size) size i k in
-        let l : q .j < size = q .below in
-        record {
-          at = st .array - size + q .j;
-          value = getD values (q .j) 0;
-          below = omega (arith, array-low p st ks ds m name size values h, h .room .top);
-          here = element-at p st ks ds m name size values h (q .j) l
-              ∙ ap (λ (k : ℕ). Word.cell (CellId.element k (65536 - size + q .j)) (getD values (q .j) 0)) (sym e)
-              ∙ ap (λ (c : CellId). Word.cell c (getD values (q .j) 0)) (sym (q .is));
-        }
+  -- a named constant stands with its value
+  pub record Kept (c : CellId × ℕ) : Type 0 where
+    pub at : ℕ
+    pub below : at < 16384
+    pub here : mapAt p at ≡ Word.cell (c .0) (c .1)
 
-    of-procedure : (name : Name) (accumulator : Bool) (locals : List (Name × Item)) (body : Stmts) → Here p st ks (Declaration.procedure name accumulator locals body ∷ ds) m
-        → (n : ℕ) → n ≡ st .scope .words → (i : CellId) → List·Memᴰ i (localsBy itemVariables n 0 locals) → Stood p i
-    of-procedure name accumulator locals body h n e i k =
-        let q = which-local n 0 locals i k in
-        let z : 0 + q .j ≡ q .j = omega arith in
-        let l : q .j < localWords st name locals = omega (arith, q .below, local-length st name n locals) in
-        let w = local-word p st ks ds m name accumulator locals body h (q .j) l in
-        record {
-          at = st .code + q .j;
-          value = w .value;
-          below = omega (arith, code-room p st ks ds m name accumulator locals body h .0, h .room .top);
-          here = w .is ∙ ap (λ (k : ℕ). Word.cell (CellId.named (Id.local k (q .j))) (w .value)) (sym e)
-              ∙ ap (λ (k : ℕ). Word.cell (CellId.named (Id.local n k)) (w .value)) (sym z)
-              ∙ ap (λ (c : CellId). Word.cell c (w .value)) (sym (q .is));
-        }
+  of-constant : (i : Id) (item : Item) (c : CellId × ℕ) → List·Memᴰ c (itemConstants i item) → (at : ℕ) → at < 16384 → mapAt p at ≡ getD (itemWords i item) 0 Word.free → Kept c
+  unfolding itemConstants itemWords
+  of-constant i Item.integer c h at l e = absurd (List·Memᴰ·not-nil h)
+  of-constant i (Item.constant v) c h at l e = record { at = at; below = l; here = e ∙ ap (λ (d : CellId × ℕ). Word.cell (d .0) (d .1)) (sym (List·Memᴰ·eq-of-singleton h)) }
+  of-constant i (Item.compconstant v) c h at l e = absurd (List·Memᴰ·not-nil h)
 
-  either : {i : CellId} (s : List CellId) {t : List CellId} → (List·Memᴰ i s → Stood p i) → (List·Memᴰ i t → Stood p i) → List·Memᴰ i (s ++ t) → Stood p i
-  either {i} s {t} f g h = go (List·Memᴰ·append-cases s h)
-    where
-      go : List·Memᴰ i s ⊎ List·Memᴰ i t → Stood p i
-      go (inl x) = f x
-      go (inr x) = g x
+  no-constant : (i : Id) (v : ℕ) (c : CellId × ℕ) → List·Memᴰ c (itemConstants i (Item.compconstant v)) → ⊥
+  unfolding itemConstants
+  no-constant i v c h = List·Memᴰ·not-nil h
 
-  pub variables : (ds : List Declaration) → Homes ds
-  unfolding declaredBy itemVariables wordsOf kindsOf
-  variables [] st ks m h n e i k = absurd (List·Memᴰ·not-nil k)
-  variables (Declaration.item name Item.integer ∷ ds) st ks m h n e i k =
-      either (CellId.named (Id.global n) ∷ []) (λ x. stood-as (List·Memᴰ·eq-of-singleton x) (of-integer st ks ds m name h n e))
-      (further (Declaration.item name Item.integer) ds (variables ds) st ks m h (n + 1) (omega arith) i) k
-  variables (Declaration.item name (Item.constant v) ∷ ds) st ks m h n e i k =
-      further (Declaration.item name (Item.constant v)) ds (variables ds) st ks m h (n + 1) (omega arith) i k
-  variables (Declaration.item name (Item.compconstant v) ∷ ds) st ks m h n e i k =
-      further (Declaration.item name (Item.compconstant v)) ds (variables ds) st ks m h (n + 0) (omega arith) i k
-  variables (Declaration.array name size values ∷ ds) st ks m h n e i k =
-      either (elementsOf n (65536 - size) size) (of-array st ks ds m name size values h n e i)
-      (further (Declaration.array name size values) ds (variables ds) st ks m h (suc n) (omega arith) i) k
-  variables (Declaration.procedure name accumulator locals body ∷ ds) st ks m h n e i k =
-      either (localsBy itemVariables n 0 locals) (of-procedure st ks ds m name accumulator locals body h n e i)
-      (further (Declaration.procedure name accumulator locals body) ds (variables ds) st ks m h (suc n) (omega arith) i) k
-  variables (Declaration.nextSector ∷ ds) st ks m h n e i k = further Declaration.nextSector ds (variables ds) st ks m h n (omega arith) i k
+  pub constants : (st : State) (ks : List Kind) (m : List Word) → Here p st ks (p .declarations) m → 0 ≡ st .scope .words
+      → (c : CellId × ℕ) → List·Memᴰ c (declaredBy itemConstants (λ number size. []) 0 (p .declarations)) → Kept c
+  constants st ks m h e =
+      everything p itemConstants (λ number size. []) Kept no-constant of-constant (λ st ks ds m name size values h c k. absurd (List·Memᴰ·not-nil k)) (p .declarations) st ks m h 0 e

@@ -11,7 +11,7 @@ use Rattle.syntax.specs.Emission.{after, procedureWords, mainWords}
 use Rattle.syntax.specs.Pool.{literalsOf, indexOf}
 use Rattle.syntax.specs.State.{State, start, sectorOf, stateAfter, localWords, linkOf, step, finish}
 use Rattle.emission.specs.Map.{Frame, addressOf, Word, Plan, frame, fixedWords, placeAll, planOf}
-use Rattle.semantics.specs.Variables.{itemVariables, elementsOf, declaredBy, variablesOf}
+use Rattle.semantics.specs.Variables.{itemVariables, elementsOf, declaredBy, variablesOf, constantsOf}
 use Rattle.semantics.specs.Agreement.{Home}
 use Rattle.semantics.specs.WellFormed.{Kind, IdOk, kindsOf, WellFormed}
 use Rattle.semantics.specs.Laid.{Direct, named, literal}
@@ -25,7 +25,7 @@ use Rattle.semantics.proofs.MemoryMap.Kept.{Room, Outside}
 use Rattle.semantics.proofs.MemoryMap.Here.{Here, next, placing, split, tail, tail-length, last-pool, kept, empty, begin}
 use Rattle.semantics.proofs.MemoryMap.Closing.{Closing, closing, poolOf, Literal, literal as in-pool}
 use Rattle.semantics.proofs.MemoryMap.Stands.{CellAt, link-word, body-fixed, local-word, code-room}
-use Rattle.semantics.proofs.MemoryMap.Homes.{GlobalAt, global-as, globals, Stood, variables}
+use Rattle.semantics.proofs.MemoryMap.Homes.{GlobalAt, global-as, globals, Stood, variables, Kept, constants}
 
 -- an address in a sector
 pub in-sector : (s k : ℕ) → 512 * s ≤ k → k < 512 * suc s → Near s k
@@ -170,6 +170,11 @@ module _ (p : Program) (w : WellFormed p) where
   unfolding stateAfter
   at-place before ds e = split p before start [] ds (empty p) (subst (λ (l : List Declaration). Here p start [] l (empty p)) e (begin p w))
 
+  -- a named constant stands with its value
+  pub constant-home : (c : CellId × ℕ) → List·Memᴰ c (constantsOf p) → Kept p c
+  unfolding constantsOf
+  constant-home = constants p start [] (empty p) (begin p w) refl
+
   module _ (once : (k l : ℕ) (i : CellId) (v u : ℕ) → mapAt p k ≡ Word.cell i v → mapAt p l ≡ Word.cell i u → k ≡ l)
       (link-once : (k l n : ℕ) → mapAt p k ≡ Word.link n → mapAt p l ≡ Word.link n → k ≡ l) where
     home : (i : CellId) → List·Memᴰ i (variablesOf p) → Home p i
@@ -181,7 +186,7 @@ module _ (p : Program) (w : WellFormed p) where
 
         go : (i ≡ CellId.named Id.x) ⊎ List·Memᴰ i (declaredBy itemVariables (λ number size. elementsOf number (65536 - size) size) 0 (p .declarations)) → Home p i
         go (inl e) = of (record { at = 0; value = 0; below = omega arith; here = x-at ∙ ap (λ (c : CellId). Word.cell c 0) (sym e) })
-        go (inr k) = of (variables p (p .declarations) start [] (empty p) (begin p w) 0 refl i k)
+        go (inr k) = of (variables p start [] (empty p) (begin p w) refl i k)
 
     pub placement : Placement p
     placement = record {

@@ -1,6 +1,6 @@
 -- What each declaration has in the finished map. Assumes nothing.
 use Prim.Native.Nat.{ℕ, suc, _+_, _-_, _*_, _/_, _%_, _≤_, _<_}
-use mathlib.Core.Path.{_≡_, refl, sym, ap, _∙_, subst}
+use mathlib.Core.Path.{_≡_, refl, ap, _∙_, subst}
 use mathlib.Core.Bool.{Bool, true, false, cond}
 use mathlib.Core.List.{List, [], _∷_, _++_}
 use native.Mathlib.Omega.{arith}
@@ -47,27 +47,22 @@ module _ (p : Program) (st : State) (ks : List Kind) (ds : List Declaration) (m 
   few-on : (d : Declaration) → Here p st ks (d ∷ ds) m → st .scope .words + length (kindsOf (d ∷ [])) ≤ 384
   few-on d h = subst (λ (n : ℕ). n ≤ 384) (words-on st d) (next p st ks d ds m h .room .few)
 
-  word-taken : (d : Declaration) → 1 ≤ length (kindsOf (d ∷ [])) → Outside (step st d) (0o200 + st .scope .words)
-  word-taken d l = Outside.global (omega (arith, words-on st d))
-
   -- ---- An item
 
-  pub item-word : (name : Name) (item : Item) (v : ℕ) → itemWords (Id.global (st .scope .words)) item ≡ Word.cell (CellId.named (Id.global (st .scope .words))) v ∷ []
-      → Here p st ks (Declaration.item name item ∷ ds) m → CellAt p (st .scope .words)
+  pub item-laid : (name : Name) (item : Item) → length (itemKinds item) ≡ 1 → Here p st ks (Declaration.item name item ∷ ds) m
+      → (st .scope .words < 384) × (mapAt p (0o200 + st .scope .words) ≡ getD (itemWords (Id.global (st .scope .words)) item) 0 Word.free)
   unfolding placeDeclaration kindsOf
-  item-word name item v e h =
+  item-laid name item one h =
       let n = st .scope .words in
       let d = Declaration.item name item in
-      let l : length (itemKinds item) ≡ 1 = sym (item-length (Id.global n) item) ∙ ap length e in
+      let l : length (itemWords (Id.global n) item) ≡ 1 = item-length (Id.global n) item ∙ one in
       let k : length (kindsOf (d ∷ [])) ≡ length (itemKinds item) + 0 = length-append (itemKinds item) [] in
       let f : n + length (kindsOf (d ∷ [])) ≤ 384 = few-on d h in
-      record {
-        value = v;
-        few = omega arith;
-        is = stays d h (0o200 + n) (word-taken d (omega arith))
-            ∙ ap (λ (ws : List Word). getD (placed m (0o200 + n) ws) (0o200 + n) Word.free) e
-            ∙ placed-first m (0o200 + n) (Word.cell (CellId.named (Id.global n)) v) [] (omega (arith, h .size));
-      }
+      let z : 0o200 + n ≡ 0o200 + n + 0 = omega arith in (
+        omega arith,
+        ap (mapAt p) z ∙ stays d h (0o200 + n + 0) (Outside.global (omega (arith, words-on st d)))
+            ∙ placed-in m (0o200 + n) (itemWords (Id.global n) item) (omega (arith, h .size)) 0 (omega arith),
+      )
 
   -- ---- An array
 
@@ -148,17 +143,18 @@ module _ (p : Program) (st : State) (ks : List Kind) (ds : List Declaration) (m 
         stays (Declaration.procedure name accumulator locals body) h (st .code + j) (Outside.code (omega arith) (omega arith))
         ∙ placed-in (placed m (0o200 + own) (Word.fixed at ∷ [])) (st .code) codes (omega (arith, code-room .0, h .room .top, g .size)) j l
 
+    pub local-laid : (n : ℕ) → n < localWords st name locals → mapAt p (st .code + n) ≡ getD (localItems own 0 locals) n Word.free
+    local-laid n l =
+        let e : length (localItems own 0 locals) ≡ localWords st name locals = local-length st name own locals in
+        code-at n (omega (arith, length-append (localItems own 0 locals) (Word.link own ∷ fixedWords over (procedureWords body at))))
+        ∙ List·getD-append (localItems own 0 locals) (Word.link own ∷ fixedWords over (procedureWords body at)) Word.free n (omega arith)
+
     pub local-word : (n : ℕ) → n < localWords st name locals → Local own n (mapAt p (st .code + n))
     local-word n l =
         let e : length (localItems own 0 locals) ≡ localWords st name locals = local-length st name own locals in
         let q = local-at own 0 locals n (omega arith) in
         let z : 0 + n ≡ n = omega arith in
-        record {
-          value = q .value;
-          is = code-at n (omega (arith, length-append (localItems own 0 locals) (Word.link own ∷ fixedWords over (procedureWords body at))))
-              ∙ List·getD-append (localItems own 0 locals) (Word.link own ∷ fixedWords over (procedureWords body at)) Word.free n (omega arith)
-              ∙ q .is ∙ ap (λ (k : ℕ). Word.cell (CellId.named (Id.local own k)) (q .value)) z;
-        }
+        record { value = q .value; is = local-laid n l ∙ q .is ∙ ap (λ (k : ℕ). Word.cell (CellId.named (Id.local own k)) (q .value)) z }
 
     after-locals : (j : ℕ) → j < suc (length (procedureWords body at)) → mapAt p (at + j) ≡ getD (Word.link own ∷ fixedWords over (procedureWords body at)) j Word.free
     after-locals j l =
