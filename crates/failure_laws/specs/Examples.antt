@@ -1,0 +1,13 @@
+-- Worked examples, decided by computation: a text that ends, and one that is failed at its last byte.
+use mathlib.Core.Path.{_≡_, refl}
+use Rattle.source.specs.Bytes.{bytes}
+use Rattle.emission.specs.Compile.{Result, compileDef}
+use Rattle.emission.specs.Computed.{computed}
+
+ended : compileDef (bytes ".BEGIN X=1") ≡ Result.failed 6 10
+unfolding computed
+ended = refl
+
+last-byte : compileDef (bytes ".BEGIN X=Y") ≡ Result.failed 7 9
+unfolding computed
+last-byte = refl
