@@ -2,3 +2,4 @@
 pub mod Plans
 pub mod Readings
 pub mod Closing
+pub mod Outcomes

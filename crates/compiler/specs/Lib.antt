@@ -1,4 +1,5 @@
--- What `compile` answers and leaves, and demand 3 as its caller sees it.
+-- What `compile` answers and leaves, and the demands as its caller sees them.
 pub mod Compile
 pub mod Passes
 pub mod Closing
+pub mod Outcomes

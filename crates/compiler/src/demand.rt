@@ -1,4 +1,4 @@
-// Demand 3 as a caller of `compile` and `run` sees it.
+// The demands as a caller of `compile` and `run` sees them.
 use crate::Answer;
 use crate::compile;
 use machine::Clock;
@@ -7,7 +7,14 @@ use machine::Report;
 use machine::Request;
 use machine::run;
 ghost use Rattle.compiler.specs.Closing.{CompileCalled, RunCalled, Demand3Called};
+ghost use Rattle.compiler.specs.Outcomes.{Demand1Called};
 
+// "An image or one of the numbered failures with its place."
+pub fn demand_one_called()
+    ensures { λ r. ⌜ Demand1Called ⌝ }
+{}
+
+// Machine and meaning agree, on whole lists of runs.
 pub fn demand_three_called()
     ensures { λ r. ⌜ Demand3Called ⌝ }
 {}

@@ -45,10 +45,6 @@ pub next-below : (at : ℕ) → at < lastAddress → nextAddress at ≡ suc at
 unfolding nextAddress
 next-below at h = rw (lt-ltb at lastAddress h)
 
-pub next-last : (at : ℕ) → lastAddress ≤ at → nextAddress at ≡ at
-unfolding nextAddress
-next-last at h = rw (le-ltb at lastAddress h)
-
 pub next-grows : (at : ℕ) → at ≤ nextAddress at
 unfolding nextAddress
 next-grows at = go (ltb at lastAddress)

@@ -33,13 +33,6 @@ module _ {A : Type 0} where
   sets-append l at [] vs = rw add-zero
   sets-append l at (u ∷ us) vs = sets-append (set l at u) (suc at) us vs ∙ rw (add-suc at (length us), suc-add at (length us))
 
-  -- the last first
-  sets-last : (l : List A) (at : ℕ) (us : List A) (v : A) → sets l at (us ++ (v ∷ [])) ≡ sets (set l (at + length us) v) at us
-  sets-last l at [] v = rw add-zero
-  sets-last l at (u ∷ us) v =
-      sets-last (set l at u) (suc at) us v
-      ∙ rw (add-suc at (length us), suc-add at (length us), set-comm l at (suc (at + length us)) u v (λ q. omega (arith, q)))
-
 -- ---- Texts one after another
 
 module _ {a b c : List ℕ} {at m r : ℕ} {u v : List ℕ} where

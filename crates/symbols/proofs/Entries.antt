@@ -158,10 +158,6 @@ module _ (n : ℕ) (t : List ℕ) (name : Packed) (level : ℕ) (kind : Kind) wh
   pub declared-full : length t / 7 ≤ n → Declared n t name level kind t
   declared-full h = record { words = sym (without-room h); newest = λ l. absurd (omega arith); kept = refl }
 
--- locals are dropped by going back to the count of globals: the entries below a declaration stay
-pub declared-below : (m : ℕ) {n : ℕ} {t u : List ℕ} {name : Packed} {level : ℕ} {kind : Kind} → m ≤ n → Declared n t name level kind u → entriesOf m u ≡ entriesOf m t
-declared-below m {n} {t} {u} l d = entries-kept m n u t l (d .kept)
-
 -- ---- The answer is the definition's
 
 -- what the definitions ask of the row that they find, they ask of its entry

@@ -176,10 +176,6 @@ same-unpacked p q =
     (λ h. ap (λ x. sameBytes (unpack x) (unpack q)) (packed-is p q h) ∙ same-self (unpack q))
     (λ h. ap (λ x. samePacked x q) (sym (pack-unpack p) ∙ ap packOf (same-is (unpack p) (unpack q) h) ∙ pack-unpack q) ∙ packed-self q)
 
-pub same-packed : (a b : Name) → length a ≤ 6 → length b ≤ 6 → allNameBytes a ≡ true → allNameBytes b ≡ true → samePacked (packOf a) (packOf b) ≡ sameBytes a b
-same-packed a b l m h k =
-    same-unpacked (packOf a) (packOf b) ∙ ap₂ sameBytes (unpack-pack a l h) (unpack-pack b m k)
-
 -- "X is predeclared"
 pub x-packed : (p : Packed) → isX (unpack p) ≡ samePacked p (record { one = 0o054000; two = 0; three = 0 })
 unfolding isX unpack trimmed beforeTrimmed
