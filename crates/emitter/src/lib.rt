@@ -68,7 +68,7 @@ pub fn held_count(pool: Pool) -> usize
 }
 
 // The place of a value in a pool, or how many words it holds.
-pub fn index_of(pool: Pool, value: u16) -> usize
+fn index_of(pool: Pool, value: u16) -> usize
     ensures { λ r. ⌜ (r ≡ indexOf (heldBy pool) value) × (r ≤ 512) ⌝ }
 {
     let words = pool.words;
@@ -84,7 +84,7 @@ pub fn index_of(pool: Pool, value: u16) -> usize
 }
 
 // The pool with a value, once. A full pool stays as it is.
-pub fn with_literal(pool: Pool, value: u16) -> Pool
+fn with_literal(pool: Pool, value: u16) -> Pool
     ensures { λ r. ⌜ heldBy r ≡ withLiteral (heldBy pool) value ⌝ }
 {
     let count = held_count(pool);
@@ -117,7 +117,7 @@ pub fn store(image: &mut [u16], at: usize, word: u16)
 }
 
 // A word at the next address.
-pub fn emit_word(image: &mut [u16], output: Output, word: u16) -> Output
+fn emit_word(image: &mut [u16], output: Output, word: u16) -> Output
     ensures { λ r. ⌜ emittedBy r (now (image .exit)) ≡ withWord (emittedBy output (now (image .entry))) word ⌝ }
 {
     let at = output.code;
@@ -130,7 +130,7 @@ pub fn emit_word(image: &mut [u16], output: Output, word: u16) -> Output
 }
 
 // The word of an order on an address: LDX has its tag set, and an address outside of sector 0 its sector bit.
-pub fn reference(code: u16, indirect: bool, address: u32) -> u16
+fn reference(code: u16, indirect: bool, address: u32) -> u16
     ensures { λ r. ⌜ r ≡ map.reference code indirect address ⌝ }
 {
     instruction::encode_memory(
