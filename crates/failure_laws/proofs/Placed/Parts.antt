@@ -80,7 +80,7 @@ if-given Q (some a) f y h k = h a
 if-given Q none f y h k = k
 
 -- of an option of which P holds
-if-some : {A B : Type 0} (Q : B → Type 0) {P : A → Type 0} {o : Option A} (f : A → B) (y : B)
+pub if-some : {A B : Type 0} (Q : B → Type 0) {P : A → Type 0} {o : Option A} (f : A → B) (y : B)
     → Some P o → ((a : A) → P a → Q (f a)) → Q y → Q (given o f (λ _. y))
 if-some Q f y (there p) h k = h _ p
 if-some Q f y nothing h k = k

@@ -19,7 +19,8 @@ use Rattle.syntax.specs.Parse.{Got, is, snoc}
 use Rattle.syntax.specs.Declarations.{isTaken, newName, ItemWord, itemWords, itemLimit, sizeOf, parseValue, itemFrom, parseItem, parseList, parseLocal, parseLocals, parseGlobal, parseInitial, parseInitials, parseArray, parseJudged, parseProcedure, parseAccumulator, declarationWords, parseDeclarations}
 use Rattle.syntax.specs.Program.{parseMain, parseProgram}
 use Rattle.semantics.specs.WellFormed.{Kind, itemKinds, kindsOf, ValueOk, LocalsOk, WordsOk, DeclarationOk, DeclarationsOk, none, more, WellFormed}
-use Rattle.semantics.proofs.Acceptance.Parts.{Ok, ok, no, Some, there, nothing, and-then, fails, choice, limited, expected, one-of, any-rows, Rows, last, row, repeated, some-parted}
+use Rattle.failure_laws.proofs.Placed.Parts.{Some, there, nothing, choice}
+use Rattle.semantics.proofs.Acceptance.Parts.{Ok, ok, no, and-then, fails, limited, expected, one-of, any-rows, Rows, last, row, repeated, some-parted}
 use Rattle.semantics.proofs.Acceptance.Names.{NamesOk}
 use Rattle.semantics.proofs.Acceptance.Forms.{constants, in-range}
 use Rattle.semantics.proofs.Acceptance.Statements.{outermost}

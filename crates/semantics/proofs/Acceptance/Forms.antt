@@ -17,7 +17,8 @@ use Rattle.syntax.specs.Words.{unaries, operators, shifts, relations, tests, ba
 use Rattle.syntax.specs.Cells.{CellStart, refuse, constantOf, parseConstant, parseInRange, operandOf, subscriptOf, parseSubscript, cellStart, cellFrom, parseCell, parseLoneCell}
 use Rattle.syntax.specs.Expressions.{TermStart, termStart, parseBracketed, parseCall, termFrom, parseUnaries, operationOf, parseOperations, parseChain, condFrom, parseCond, parseChoice, tooDeepExpr, parseExpr}
 use Rattle.semantics.specs.WellFormed.{Context, OperandOk, ArrayOk, ProcedureOk, SubscriptOk, CellOk, OperationOk, OperationsOk, TermOk, CondOk, ExprBy, ExprOk}
-use Rattle.semantics.proofs.Acceptance.Parts.{Ok, ok, Some, there, nothing, and-then, fails, choice, expected, if-given, one-of, Any, any-rows, repeated}
+use Rattle.failure_laws.proofs.Placed.Parts.{Some, there, nothing, choice, if-some}
+use Rattle.semantics.proofs.Acceptance.Parts.{Ok, ok, and-then, fails, expected, one-of, Any, any-rows, repeated}
 use Rattle.semantics.proofs.Acceptance.Words.{token-word}
 use Rattle.semantics.proofs.Acceptance.Names.{NamesOk, name-as, constant-ok, operand-ok, array-ok, function-ok}
 
@@ -40,7 +41,7 @@ module _ (source : List ℕ) {x : Context} {names : Names} (known : NamesOk x na
   constants at =
       let t = tokenAt source at in
       choice (Ok IsValue) (is Kinds.numeral t) _ _ (λ e. ok (token-word source at))
-      (λ e. if-given (Ok IsValue) _ _ (name-as known source asConstant (constant-ok x) t) (λ v p. ok p) (refused t))
+      (λ e. if-some (Ok IsValue) _ _ (name-as known source asConstant (constant-ok x) t) (λ v p. ok p) (refused t))
 
   pub in-range : (test : ℕ → Bool) (at : ℕ) → Ok (λ (v : ℕ). IsValue v × (test v ≡ true)) (parseInRange source names test at)
   unfolding parseInRange
@@ -52,7 +53,7 @@ module _ (source : List ℕ) {x : Context} {names : Names} (known : NamesOk x na
   operands at =
       let t = tokenAt source at in
       choice (Ok (OperandOk x)) (is Kinds.numeral t) _ _ (λ e. ok (token-word source at))
-      (λ e. if-given (Ok (OperandOk x)) _ _ (name-as known source asOperand (operand-ok x) t) (λ o p. ok p) (refused t))
+      (λ e. if-some (Ok (OperandOk x)) _ _ (name-as known source asOperand (operand-ok x) t) (λ o p. ok p) (refused t))
 
   pub subscripts : (at : ℕ) → Ok (SubscriptOk x) (parseSubscript source names at)
   unfolding parseSubscript subscriptOf
@@ -69,7 +70,7 @@ module _ (source : List ℕ) {x : Context} {names : Names} (known : NamesOk x na
   pub cell-starts : (at : ℕ) → Ok StartOk (cellStart source names (tokenAt source at))
   unfolding cellStart
   cell-starts at =
-      if-given (Ok StartOk) _ _ (name-as known source asArray (array-ok x) (tokenAt source at)) (λ a p. ok p) (and-then (operands at) (λ o m p. ok p))
+      if-some (Ok StartOk) _ _ (name-as known source asArray (array-ok x) (tokenAt source at)) (λ a p. ok p) (and-then (operands at) (λ o m p. ok p))
 
   pub cells-from : (start : CellStart) (at : ℕ) → StartOk start → Ok (CellOk x) (cellFrom source names start at)
   unfolding cellFrom
@@ -101,7 +102,7 @@ module _ (source : List ℕ) {x : Context} {names : Names} (known : NamesOk x na
       choice (Ok TermStartOk) (is Kinds.at t) _ _ (λ e. ok tt)
       (λ e. choice (Ok TermStartOk) (is Kinds.ZERO t) _ _ (λ e. ok tt)
       (λ e. choice (Ok TermStartOk) (is Kinds.leftParenthesis t) _ _ (λ e. ok tt)
-      (λ e. if-given (Ok TermStartOk) _ _ (name-as known source asFunction (function-ok x) t) (λ p q. ok q)
+      (λ e. if-some (Ok TermStartOk) _ _ (name-as known source asFunction (function-ok x) t) (λ p q. ok q)
       (and-then (cell-starts at) (λ c n p. ok p)))))
 
   unaries-any : (at : ℕ) → Ok Any (parseUnaries source names at)

@@ -12,7 +12,8 @@ use Rattle.syntax.specs.Symbols.{Symbol, Entry, Names, isX, symbolOf, asConstan
 use Rattle.syntax.specs.Parse.{is}
 use Rattle.syntax.specs.Cells.{nameAs}
 use Rattle.semantics.specs.WellFormed.{Context, IdOk, OperandOk, ArrayOk, ProcedureOk}
-use Rattle.semantics.proofs.Acceptance.Parts.{Some, there, nothing, choice, if-given, Rows, found}
+use Rattle.failure_laws.proofs.Placed.Parts.{Some, there, nothing, choice, if-some}
+use Rattle.semantics.proofs.Acceptance.Parts.{Rows, found}
 
 -- what a name stands for is declared
 abbrev pub SymbolOk : Context → Symbol → Type 0
@@ -34,7 +35,7 @@ module _ {x : Context} {names : Names} (known : NamesOk x names) where
   unfolding symbolOf
   symbol-ok name =
       choice (SymbolOk x) (isX name) _ _ (λ e. tt)
-      (λ e. if-given (SymbolOk x) _ _ (found (sameBytes name) known) (λ r p. p) tt)
+      (λ e. if-some (SymbolOk x) _ _ (found (sameBytes name) known) (λ r p. p) tt)
 
   pub name-as : {A : Type 0} {P : A → Type 0} (source : List ℕ) (kind : Symbol → Option A) → ((s : Symbol) → SymbolOk x s → Some P (kind s)) → (t : Token)
       → Some P (nameAs source names kind t)

@@ -1,28 +1,24 @@
 -- What holds of everything that a parser gets: how that goes through the combinators that parsers are made of. Assumes nothing.
 use Prim.Native.Nat.{ℕ, zero, suc}
-use mathlib.Core.Path.{_≡_, refl}
+use mathlib.Core.Path.{_≡_}
 use mathlib.Core.Bool.{Bool, true, false}
 use mathlib.Core.List.{List, [], _∷_}
-use mathlib.Core.Option.{Option, none, some}
+use mathlib.Core.Option.{Option, some}
 use lib.Dec.{eqb}
 use lib.ListN.{length}
 use borrow.Author.Tests.{eqb-true}
-use Rattle.source.specs.Bytes.{whether, find, given}
+use Rattle.source.specs.Bytes.{whether, find}
 use Rattle.source.specs.declared.Token.{Token}
 use Rattle.source.specs.Tokens.{tokenAt}
 use Rattle.syntax.specs.Parse.{Got, andThen, failAt, within, is, expect, repeatBy, repeat, parted}
 use Rattle.syntax.specs.Parse.Got.{got, failed}
 use Rattle.syntax.specs.Words.{asOneOf}
+use Rattle.failure_laws.proofs.Placed.Parts.{Some, there, nothing, choice, if-some}
 
 -- P holds of what is got, if something is
 pub data Ok {A : Type 0} (P : A → Type 0) : Got A → Type 0 where
   ok : {t : A} {n : ℕ} → P t → Ok P (got t n)
   no : {n at : ℕ} → Ok P (failed n at)
-
--- of what may be there
-pub data Some {A : Type 0} (P : A → Type 0) : Option A → Type 0 where
-  there : {a : A} → P a → Some P (some a)
-  nothing : Some P none
 
 pub and-then : {A B : Type 0} {P : A → Type 0} {Q : B → Type 0} {g : Got A} {f : A → ℕ → Got B}
     → Ok P g → ((t : A) (n : ℕ) → P t → Ok Q (f t n)) → Ok Q (andThen g f)
@@ -33,10 +29,6 @@ and-then no h = no
 pub fails : {A : Type 0} {P : A → Type 0} (t : Token) (n : ℕ) → Ok P (failAt t n)
 unfolding failAt
 fails t n = no
-
-pub choice : {B : Type 0} (P : B → Type 0) (b : Bool) (x y : B) → (b ≡ true → P x) → (b ≡ false → P y) → P (whether b (λ _. x) (λ _. y))
-choice P true x y f g = f refl
-choice P false x y f g = g refl
 
 pub limited : {A : Type 0} {P : A → Type 0} (limit : ℕ) (t : Token) {g : Got A} → (limit ≡ 0 → Ok P g) → Ok P (within limit t g)
 unfolding within
@@ -49,11 +41,6 @@ Any a = Unit {0}
 pub expected : (kind : ℕ) (source : List ℕ) (at : ℕ) → Ok Any (expect kind source at)
 unfolding expect
 expected kind source at = choice (Ok Any) (is kind (tokenAt source at)) _ _ (λ e. ok tt) (λ e. fails (tokenAt source at) 6)
-
-pub if-given : {A B : Type 0} (Q : B → Type 0) {P : A → Type 0} {o : Option A} (f : A → B) (y : B)
-    → Some P o → ((a : A) → P a → Q (f a)) → Q y → Q (given o f (λ _. y))
-if-given Q f y (there p) h k = h _ p
-if-given Q f y nothing h k = k
 
 -- every row of a table
 pub data Rows {K A : Type 0} (P : A → Type 0) : List (K × A) → Type 0 where
@@ -76,7 +63,7 @@ found {P = P} test (row {k = k} {a = a} {rs = rs} p rest) = found-by P (test k) 
 -- what a token stands for in a table of which P holds
 pub one-of : {A B : Type 0} (Q : B → Type 0) {P : A → Type 0} {table : List (ℕ × A)} (t : Token) (f : A → B) (y : B)
     → Rows P table → ((a : A) → P a → Q (f a)) → Q y → Q (asOneOf table t f (λ _. y))
-one-of Q t f y rows h k = if-given Q (λ r. f (r .1)) y (found (eqb (t .kind)) rows) (λ r p. h (r .1) p) k
+one-of Q t f y rows h k = if-some Q (λ r. f (r .1)) y (found (eqb (t .kind)) rows) (λ r p. h (r .1) p) k
 
 -- a table of which nothing need hold
 pub any-rows : {K A : Type 0} (rs : List (K × A)) → Rows (Any {A = A}) rs
@@ -88,7 +75,7 @@ pub repeated-by : {A : Type 0} (P : A → Type 0) (more : A → ℕ → Option (
     → (k : ℕ) (done : A) (at : ℕ) → P done → Ok P (repeatBy more k done at)
 unfolding repeatBy
 repeated-by P more h zero done at p = ok p
-repeated-by P more h (suc k) done at p = if-given (Ok P) _ _ (h done at p) (λ g q. and-then q (λ longer n r. repeated-by P more h k longer n r)) (ok p)
+repeated-by P more h (suc k) done at p = if-some (Ok P) _ _ (h done at p) (λ g q. and-then q (λ longer n r. repeated-by P more h k longer n r)) (ok p)
 
 pub repeated : {A : Type 0} (P : A → Type 0) (source : List ℕ) (more : A → ℕ → Option (Got A)) → ((done : A) (at : ℕ) → P done → Some (Ok P) (more done at))
     → (done : A) (at : ℕ) → P done → Ok P (repeat source more done at)

@@ -10,7 +10,8 @@ use Rattle.syntax.specs.Parse.{Got, is}
 use Rattle.syntax.specs.Expressions.{parseCond, parseExpr}
 use Rattle.syntax.specs.Statements.{StmtStart, openings, endsStatement, stmtStart, parseAssigned, parseElement, parseSetX, parseIf, parseWhen, parseBody, parseWhile, parseForInteger, parseForX, parseFor, parseStmts, parseCompound, stmtFrom, stmtBy, parseStmt, parseOutermost}
 use Rattle.semantics.specs.WellFormed.{Context, IdOk, ArrayOk, ProcedureOk, CondOk, ExprOk, StmtBy, StmtsBy, IsEmpty, StmtOk}
-use Rattle.semantics.proofs.Acceptance.Parts.{Ok, ok, and-then, fails, choice, expected, if-given, one-of, Rows, last, row, some-parted}
+use Rattle.failure_laws.proofs.Placed.Parts.{choice, if-some}
+use Rattle.semantics.proofs.Acceptance.Parts.{Ok, ok, and-then, fails, expected, one-of, Rows, last, row, some-parted}
 use Rattle.semantics.proofs.Acceptance.Names.{NamesOk, name-as, integer-ok, array-ok, procedure-ok}
 use Rattle.semantics.proofs.Acceptance.Forms.{refused, subscripts, lone-cells, calls, conditions, expressions}
 
@@ -33,9 +34,9 @@ module _ (source : List ℕ) {x : Context} {names : Names} (known : NamesOk x na
   starts : (t : Token) → Ok StartOk (stmtStart source names t)
   unfolding stmtStart
   starts t =
-      if-given (Ok StartOk) _ _ (name-as known source asInteger (integer-ok x) t) (λ i p. ok p)
-      (if-given (Ok StartOk) _ _ (name-as known source asArray (array-ok x) t) (λ a p. ok p)
-      (if-given (Ok StartOk) _ _ (name-as known source asProcedure (procedure-ok x) t) (λ q p. ok p)
+      if-some (Ok StartOk) _ _ (name-as known source asInteger (integer-ok x) t) (λ i p. ok p)
+      (if-some (Ok StartOk) _ _ (name-as known source asArray (array-ok x) t) (λ a p. ok p)
+      (if-some (Ok StartOk) _ _ (name-as known source asProcedure (procedure-ok x) t) (λ q p. ok p)
       (one-of (Ok StartOk) t _ _ opening-rows (λ s p. ok p) (refused t))))
 
   -- the forms, with the parsers of their expressions and of the statements in them
@@ -100,7 +101,7 @@ module _ (source : List ℕ) {x : Context} {names : Names} (known : NamesOk x na
     unfolding parseFor
     for-form t =
         choice (Ok R) (is Kinds.hash t) _ _ (λ e. for-x (t .next))
-        (λ e. if-given (Ok R) _ _ (name-as known source asInteger (integer-ok x) t) (λ i p. for-integer i (t .next) p) (refused t))
+        (λ e. if-some (Ok R) _ _ (name-as known source asInteger (integer-ok x) t) (λ i p. for-integer i (t .next) p) (refused t))
 
     pub statements : (at : ℕ) → Ok (StmtsBy Q) (parseStmts source names inner at)
     unfolding parseStmts

@@ -7,7 +7,8 @@ use borrow.Author.Tests.{leb-true}
 use Rattle.source.specs.Bytes.{isLetter, isDigit, isOctalDigit, span, startsWith}
 use Rattle.source.specs.declared.Token.{Token}
 use Rattle.source.specs.Tokens.{constantToken, decimalToken, negativeToken, octalToken, wordToken, signs, signToken, tokenOf, afterBlanks, tokenAt}
-use Rattle.semantics.proofs.Acceptance.Parts.{choice, found, if-given, any-rows}
+use Rattle.failure_laws.proofs.Placed.Parts.{choice, if-some}
+use Rattle.semantics.proofs.Acceptance.Parts.{found, any-rows}
 
 abbrev pub IsWord : Token → Type 0
 IsWord t = t .value < 65536
@@ -40,7 +41,7 @@ point-word bs at = zero-word
 
 sign-word : (bs : List ℕ) (at : ℕ) → IsWord (signToken bs at)
 unfolding signToken
-sign-word bs at = if-given IsWord _ _ (found (λ sign. startsWith sign bs) (any-rows signs)) (λ r p. zero-word) zero-word
+sign-word bs at = if-some IsWord _ _ (found (λ sign. startsWith sign bs) (any-rows signs)) (λ r p. zero-word) zero-word
 
 of-word : (bs : List ℕ) (at : ℕ) → IsWord (tokenOf bs at)
 unfolding tokenOf
