@@ -1,34 +1,74 @@
--- Demand 1 over calls: the lengths, then the text, decide how a call ends. Assumes nothing.
+-- Demand 1 over calls: of `compile` the lengths, then the text, decide how one ends; of `run` the laws of runs. Assumes nothing.
 use Prim.Native.Nat.{ℕ, _≤_}
-use mathlib.Core.Path.{_≡_, refl, ap, _∙_}
+use mathlib.Core.Path.{_≡_, refl, sym, ap, _∙_}
 use mathlib.Core.Bool.{Bool, true, false}
 use mathlib.Core.List.{List}
+use native.Mathlib.Omega.{arith}
 use borrow.Author.Tests.{eqb-true, eqb-false, leb-true, leb-false}
 use lib.Dec.{eqb, leb}
 use lib.ListN.{length}
 use Rattle.source.specs.Bytes.{whether}
+use Rattle.machine.specs.declared.Clock.{Clock}
+use Rattle.machine.specs.declared.Request.{Request}
+use Rattle.machine.specs.declared.Machine.{Machine}
+use Rattle.machine.specs.declared.Outcome.{Outcome}
+use Rattle.machine.specs.declared.Report.{Report}
+use Rattle.machine.specs.Failure.{refused}
+use Rattle.machine.specs.State as machine
+use Rattle.machine.specs.Run.{Ran, runDef, reportOf}
+use Rattle.runs.proofs.Laws.{run-laws}
 use Rattle.emission.specs.Compile.{Result, compileDef}
 use Rattle.semantics.proofs.Demand.Laws.{emission-laws}
 use Rattle.failure_laws.proofs.Placed.Numbered.{numbered}
 use Rattle.compiler.specs.declared.Answer.{Answer}
 use Rattle.compiler.specs.Compile.{resultOn, answerOf, imageAfter}
-use Rattle.compiler.specs.Outcomes.{Ended, Demand1Called}
+use Rattle.compiler.specs.Closing.{RunCalled}
+use Rattle.compiler.specs.Outcomes.{CompileEnds, RunEnds, Demand1Called}
 
 module _ (source image scratch : List ℕ) (r : Answer) (image' : List ℕ) where
-  by-text : length image ≡ 16384 → 12288 ≤ length scratch → (x : Result) → compileDef source ≡ x → r ≡ answerOf x → image' ≡ imageAfter x image → Ended source image scratch r image'
+  by-text : length image ≡ 16384 → 12288 ≤ length scratch → (x : Result) → compileDef source ≡ x → r ≡ answerOf x → image' ≡ imageAfter x image → CompileEnds source image scratch r image'
   unfolding answerOf imageAfter
-  by-text l s (Result.accepted c) e a i = Ended.accepted l s (c .entry) (c .words) (c .globals) a (ap length i ∙ emission-laws .image-size source c e)
-  by-text l s (Result.failed n at) e a i = Ended.failed l s n at a (numbered source n at e) i
+  by-text l s (Result.accepted c) e a i = CompileEnds.accepted l s (c .entry) (c .words) (c .globals) a (ap length i ∙ emission-laws .image-size source c e)
+  by-text l s (Result.failed n at) e a i = CompileEnds.failed l s n at a (numbered source n at e) i
 
   by-lengths : (b d : Bool) → eqb (length image) 16384 ≡ b → leb 12288 (length scratch) ≡ d
       → let x = whether b (λ _. whether d (λ _. compileDef source) (λ _. Result.failed 2 0)) (λ _. Result.failed 1 0) in
-      r ≡ answerOf x → image' ≡ imageAfter x image → Ended source image scratch r image'
+      r ≡ answerOf x → image' ≡ imageAfter x image → CompileEnds source image scratch r image'
   unfolding answerOf imageAfter
   by-lengths true true l s a i = by-text (eqb-true (length image) 16384 l) (leb-true 12288 (length scratch) s) (compileDef source) refl a i
-  by-lengths true false l s a i = Ended.short-scratch (eqb-true (length image) 16384 l) (leb-false 12288 (length scratch) s) a i
-  by-lengths false d l s a i = Ended.wrong-image (eqb-false (length image) 16384 l) a i
+  by-lengths true false l s a i = CompileEnds.short-scratch (eqb-true (length image) 16384 l) (leb-false 12288 (length scratch) s) a i
+  by-lengths false d l s a i = CompileEnds.wrong-image (eqb-false (length image) 16384 l) a i
+
+-- ---- Runs
+
+module _ (q : Request) (m : Machine) (k : Clock) (memory memory' : List ℕ) (r : Report) (call : RunCalled q m k memory r memory') where
+  abbrev done : Ran
+  done = runDef q (machine.state m memory)
+
+  refusal : (n : ℕ) → refused (done .outcome) ≡ true → done .outcome ≡ Outcome.Failed n → RunEnds q m k memory r memory'
+  refusal n e o =
+      let c = run-laws .refusals q (machine.state m memory) n in
+      let f = c .cause e o in
+      let a = c .answer f in
+      RunEnds.refused n f (call .reported ∙ ap (reportOf q k) a) (call .left ∙ ap (λ (d : Ran). d .state .image) a)
+
+  by-refusal : (b : Bool) → refused (done .outcome) ≡ b → (o : Outcome) → done .outcome ≡ o → RunEnds q m k memory r memory'
+  by-refusal false e o u =
+      RunEnds.ended (rw (call .reported, call .left) (run-laws .ended q (machine.state m memory) e)) (rw (call .reported) refl)
+  by-refusal true e (Outcome.Failed n) u = refusal n e u
+  by-refusal true e Outcome.Halted u =
+      let f : _≡_ {A = Bool} false true = sym (ap refused u) ∙ e in
+      let z : _≡_ {A = ℕ} 0 1 = cc in
+      absurd (omega arith)
+  by-refusal true e Outcome.Spent u =
+      let f : _≡_ {A = Bool} false true = sym (ap refused u) ∙ e in
+      let z : _≡_ {A = ℕ} 0 1 = cc in
+      absurd (omega arith)
 
 pub demand1-called : Demand1Called
-unfolding Demand1Called resultOn
-demand1-called source image scratch image' scratch' r call =
-    (by-lengths source image scratch r image' (eqb (length image) 16384) (leb 12288 (length scratch)) refl refl (call .answered) (call .laid), call .cleared)
+unfolding resultOn
+demand1-called = record {
+  compiles = λ source image scratch image' scratch' r call.
+      (by-lengths source image scratch r image' (eqb (length image) 16384) (leb 12288 (length scratch)) refl refl (call .answered) (call .laid), call .cleared);
+  runs = λ q m k memory memory' r call. by-refusal q m k memory memory' r call (refused (runDef q (machine.state m memory) .outcome)) refl (runDef q (machine.state m memory) .outcome) refl;
+}
