@@ -3,9 +3,8 @@ use Prim.Native.Nat.{ℕ}
 use mathlib.Core.Path.{_≡_, refl, sym, ap, _∙_}
 use mathlib.Core.Bool.{Bool, true, false}
 use mathlib.Core.List.{List, [], _∷_}
-use mathlib.Core.Option.{Option, none}
-use lib.Dec.{eqb}
-use borrow.Author.Tests.{ne-eqb}
+use mathlib.Core.Option.{Option, none, some}
+use borrow.Author.Tests.{eqb-true}
 use types.Run.{OneOf, miss}
 use denote.Enum.Declared.{tagOf}
 use Rattle.source.specs.Bytes.{whether, given}
@@ -15,19 +14,15 @@ use Rattle.source.specs.Tokens.{tokenAt, nameOf}
 use Rattle.syntax.specs.Tree as tree
 use Rattle.syntax.specs.Parse.{Got, andThen, is}
 use Rattle.syntax.specs.Symbols as symbols
-use Rattle.syntax.specs.Symbols.{Names, isX, symbolOf, asConstant, asInteger, asOperand, asArray, asProcedure, asFunction}
-use Rattle.syntax.specs.Cells as cells
+use Rattle.syntax.specs.Symbols.{Names, symbolOf, asConstant, asInteger, asOperand, asArray, asProcedure, asFunction}
 use Rattle.syntax.specs.Cells.{refuse, nameAs, constantOf, parseConstant, operandOf, cellStart}
 use Rattle.syntax.specs.Expressions.{TermStart}
 use Rattle.syntax.specs.Statements.{StmtStart, stmtStart}
-use Rattle.symbols.specs.declared.Packed.{Packed}
 use Rattle.symbols.specs.Packing.{packOf, unpack}
-use Rattle.symbols.specs.Table.{entryIn}
-use Rattle.symbols.proofs.Entries.{symbol-of}
 use Rattle.symbols.proofs.Tokens.{name-unpacked}
 use Rattle.cells.specs.declared.Symbol.{Symbol}
 use Rattle.cells.specs.Answers.{symbolAt, treeSymbol}
-use Rattle.cells.specs.Starts.{namedTerm, opening}
+use Rattle.cells.specs.Starts.{symbolBy, meaningBy, operandBy, cellBy, termBy, opening}
 use Rattle.cells.proofs.Symbol.{the-type}
 
 -- no definition asks for a name that is unknown, so that each asks for the symbol at a token
@@ -39,56 +34,93 @@ name-as kind e source names t = go (is Kinds.name t)
     go true = refl
     go false = sym e
 
-module _ (source : List ℕ) (names : Names) (at : ℕ) (s : Symbol) (h : treeSymbol s ≡ symbolAt source names (tokenAt source at)) where
+module _ (source : List ℕ) (names : Names) (at : ℕ) where
   abbrev here : Token
   here = tokenAt source at
 
-  by-symbol : {A : Type 0} (kind : symbols.Symbol → Option A) → kind symbols.Symbol.unknown ≡ none → nameAs source names kind here ≡ kind (treeSymbol s)
-  by-symbol kind u = name-as kind u source names here ∙ ap kind (sym h)
+  -- a name's packed words stand for the name
+  pub symbol-packed : symbolBy source names here ≡ symbolAt source names here
+  unfolding symbolBy symbolAt
+  symbol-packed = go (is Kinds.name here) refl
+    where
+      go : (b : Bool) → is Kinds.name here ≡ b
+          → whether b (λ _. symbolOf names (unpack (packOf (nameOf source here)))) (λ _. symbols.Symbol.unknown) ≡ whether b (λ _. symbolOf names (nameOf source here)) (λ _. symbols.Symbol.unknown)
+      go true h = ap (symbolOf names) (name-unpacked source at h)
+      go false h = refl
 
-  module _ {t : Token} (e : t ≡ tokenAt source at) (n : t .kind ≡ Kinds.numeral → ⊥) where
-    other : eqb (here .kind) Kinds.numeral ≡ false
-    other = rw (← e) (ne-eqb (t .kind) Kinds.numeral n)
+  numeral-unknown : is Kinds.numeral here ≡ true → symbolBy source names here ≡ symbols.Symbol.unknown
+  unfolding symbolBy
+  numeral-unknown h = rw (eqb-true (here .kind) Kinds.numeral h)
 
-    pub constant-by : parseConstant source names at ≡ given (asConstant (treeSymbol s)) (λ v. Got.got v (here .next)) (λ _. refuse here)
-    unfolding parseConstant constantOf asConstant
-    constant-by = rw (other, by-symbol asConstant refl)
+  module _ {A : Type 0} (kind : symbols.Symbol → Option A) (u : kind symbols.Symbol.unknown ≡ none) where
+    by-symbol : nameAs source names kind here ≡ kind (symbolBy source names here)
+    by-symbol = name-as kind u source names here ∙ ap kind (sym symbol-packed)
 
-    pub operand-by : operandOf source names here ≡ given (asOperand (treeSymbol s)) (λ o. Got.got o (here .next)) (λ _. refuse here)
-    unfolding operandOf asOperand
-    operand-by = rw (other, by-symbol asOperand refl)
+    -- a name that no numeral may stand for
+    by-meaning : ((v : ℕ) → kind (symbols.Symbol.compconstant v) ≡ none) → nameAs source names kind here ≡ kind (meaningBy source names here)
+    unfolding meaningBy
+    by-meaning n = by-symbol ∙ go (is Kinds.numeral here) refl
+      where
+        go : (b : Bool) → is Kinds.numeral here ≡ b → kind (symbolBy source names here) ≡ kind (whether b (λ _. symbols.Symbol.compconstant (here .value)) (λ _. symbolBy source names here))
+        go true h = ap kind (numeral-unknown h) ∙ u ∙ sym (n (here .value))
+        go false h = refl
 
-  pub cell-by : cellStart source names here ≡ given (asArray (treeSymbol s)) (λ a. Got.got (cells.CellStart.element a) (here .next)) (λ _. andThen (operandOf source names here) (λ o next. Got.got (cells.CellStart.operand o) next))
-  unfolding cellStart asArray
-  cell-by = rw (by-symbol asArray refl)
+    -- a numeral, or a name that may stand for what a numeral does
+    by-value : (value : ℕ → A) → ((v : ℕ) → kind (symbols.Symbol.compconstant v) ≡ some (value v))
+        → whether (is Kinds.numeral here) (λ _. Got.got (value (here .value)) (here .next)) (λ _. given (nameAs source names kind here) (λ a. Got.got a (here .next)) (λ _. refuse here))
+        ≡ given (kind (meaningBy source names here)) (λ a. Got.got a (here .next)) (λ _. refuse here)
+    unfolding meaningBy
+    by-value value n = go (is Kinds.numeral here)
+      where
+        go : (b : Bool) → whether b (λ _. Got.got (value (here .value)) (here .next)) (λ _. given (nameAs source names kind here) (λ a. Got.got a (here .next)) (λ _. refuse here))
+            ≡ given (kind (whether b (λ _. symbols.Symbol.compconstant (here .value)) (λ _. symbolBy source names here))) (λ a. Got.got a (here .next)) (λ _. refuse here)
+        go true = ap (λ x. given x (λ a. Got.got a (here .next)) (λ _. refuse here)) (sym (n (here .value)))
+        go false = ap (λ x. given x (λ a. Got.got a (here .next)) (λ _. refuse here)) by-symbol
 
-  pub term-by : namedTerm source names here ≡ given (asFunction (treeSymbol s)) (λ p. Got.got (TermStart.call p) (here .next)) (λ _. andThen (cellStart source names here) (λ c next. Got.got (TermStart.cell c) next))
-  unfolding namedTerm asFunction
-  term-by = rw (by-symbol asFunction refl)
+  constant-here : parseConstant source names at ≡ given (asConstant (meaningBy source names here)) (λ v. Got.got v (here .next)) (λ _. refuse here)
+  unfolding parseConstant constantOf asConstant
+  constant-here = by-value asConstant refl (λ v. v) (λ v. refl)
 
-  pub statement-by :
-      stmtStart source names here
-      ≡ given (asInteger (treeSymbol s)) (λ i. Got.got (StmtStart.integer i) (here .next)) (λ _.
-      given (asArray (treeSymbol s)) (λ a. Got.got (StmtStart.element a) (here .next)) λ _.
-      given (asProcedure (treeSymbol s)) (λ p. Got.got (StmtStart.call p) (here .next)) λ _.
-      opening here)
-  unfolding stmtStart asInteger asArray asProcedure opening
-  statement-by = rw (by-symbol asInteger refl, by-symbol asArray refl, by-symbol asProcedure refl)
+  operand-here : operandOf source names here ≡ operandBy (meaningBy source names here) here
+  unfolding operandOf operandBy asOperand
+  operand-here = by-value asOperand refl tree.Operand.literal (λ v. refl)
 
--- ---- The symbol at a token, from the table
+  cell-here : cellStart source names here ≡ cellBy (meaningBy source names here) here
+  unfolding cellStart cellBy asArray
+  cell-here = rw (by-meaning asArray refl (λ v. refl), operand-here)
 
-module _ (source : List ℕ) (names : Names) (at : ℕ) (t : Token) (e : t ≡ tokenAt source at) (k : t .kind ≡ Kinds.name) (p : Packed) (q : p ≡ packOf (nameOf source t)) where
-  named : eqb (tokenAt source at .kind) Kinds.name ≡ true
-  named = rw (← e, k)
+  -- ---- By the symbol that the code found
 
-  unpacked : unpack p ≡ nameOf source (tokenAt source at)
-  unpacked = rw (q, e) (name-unpacked source at named)
+  module _ {t : Token} (e : t ≡ here) (s : Symbol) where
+    pub symbol-by : treeSymbol s ≡ symbolBy source names t → treeSymbol s ≡ symbolAt source names here
+    symbol-by h = h ∙ ap (symbolBy source names) e ∙ symbol-packed
 
-  pub symbol-is :
-      symbolAt source names (tokenAt source at)
-      ≡ whether (isX (unpack p)) (λ _. symbols.Symbol.integer tree.Id.x) (λ _. given (entryIn names (unpack p)) (λ entry. entry .symbol) (λ _. symbols.Symbol.unknown))
-  unfolding symbolAt
-  symbol-is = rw (named, ← unpacked) (symbol-of names (unpack p))
+    module _ (h : treeSymbol s ≡ meaningBy source names t) where
+      pub constant-by : parseConstant source names at ≡ given (asConstant (treeSymbol s)) (λ v. Got.got v (t .next)) (λ _. refuse t)
+      constant-by = rw (h, e) constant-here
+
+      pub operand-by : operandOf source names here ≡ operandBy (treeSymbol s) t
+      operand-by = rw (h, e) operand-here
+
+      pub cell-by : cellStart source names here ≡ cellBy (treeSymbol s) t
+      cell-by = rw (h, e) cell-here
+
+      -- the end of `termStart`
+      pub term-by :
+          given (nameAs source names asFunction here) (λ p. Got.got (TermStart.call p) (here .next)) (λ _. andThen (cellStart source names here) (λ c next. Got.got (TermStart.cell c) next))
+          ≡ termBy (treeSymbol s) t
+      unfolding termBy asFunction
+      term-by = rw (h, e, by-meaning asFunction refl (λ v. refl), cell-here)
+
+    pub statement-by :
+        treeSymbol s ≡ symbolBy source names t
+        → stmtStart source names here
+        ≡ given (asInteger (treeSymbol s)) (λ i. Got.got (StmtStart.integer i) (t .next)) (λ _.
+        given (asArray (treeSymbol s)) (λ a. Got.got (StmtStart.element a) (t .next)) λ _.
+        given (asProcedure (treeSymbol s)) (λ p. Got.got (StmtStart.call p) (t .next)) λ _.
+        opening t)
+    unfolding stmtStart asInteger asArray asProcedure opening
+    statement-by h = rw (h, e, by-symbol asInteger refl, by-symbol asArray refl, by-symbol asProcedure refl)
 
 -- ---- Symbols of the last arm of a match: by the variants that are left
 

@@ -5,14 +5,15 @@ ghost use lib.Dec.{leb};
 ghost use Rattle.source.specs.Bytes.{between};
 ghost use Rattle.source.specs.Tokens.{tokenAt, failureAt};
 ghost use Rattle.syntax.specs.Parse.{expect as expectDef};
-ghost use Rattle.syntax.specs.Cells.{refuse, parseConstant, parseInRange, operandOf, subscriptOf, parseSubscript, cellStart, cellFrom, parseCell, parseLoneCell};
+ghost use Rattle.syntax.specs.Cells.{refuse, parseConstant, parseInRange, subscriptOf, parseSubscript, cellFrom, parseCell, parseLoneCell};
 ghost use Rattle.syntax.specs.Expressions.{termStart, tooDeepExpr};
 ghost use Rattle.syntax.specs.Statements.{stmtStart};
 ghost use Rattle.syntax.specs.Declarations.{sizeOf};
-ghost use Rattle.syntax.specs.Symbols.{nextId};
+ghost use Rattle.syntax.specs.Symbols.{nextId, symbolOf};
+ghost use Rattle.symbols.specs.Packing.{unpack};
 ghost use Rattle.symbols.specs.Table.{heldBy, levelOf, symbolFrom};
 ghost use Rattle.operands.specs.Trees.{treeId, treeOperand, treeSubscript, treeCell};
-ghost use Rattle.cells.specs.Starts.{namedTerm, opening};
+ghost use Rattle.cells.specs.Starts.{symbolBy, meaningBy, operandBy, cellBy, termBy, opening};
 ghost use Rattle.cells.specs.Answers.{partOf, gotWith, symbolAt, treeSymbol, treeCellStart, treeTermStart, treeStatementStart};
 use operands::Array;
 use operands::Cell;
@@ -25,6 +26,7 @@ use source::operator_at;
 use source::token_at;
 use symbols::Found;
 use symbols::Kind;
+use symbols::Packed;
 use symbols::find;
 use symbols::is_x;
 use symbols::pack;
@@ -80,7 +82,7 @@ pub struct ConstantAnswer {
     pub value: u16,
 }
 
-pub struct OperandAnswer {
+struct OperandAnswer {
     pub part: Part,
     pub operand: Operand,
 }
@@ -95,7 +97,7 @@ pub struct CellAnswer {
     pub cell: Cell,
 }
 
-pub struct CellStartAnswer {
+struct CellStartAnswer {
     pub part: Part,
     pub start: CellStart,
 }
@@ -152,14 +154,19 @@ pub fn expect(source: &[u8], kind: u16, at: usize) -> Part
 }
 
 // A token that nothing allowed there begins with.
-pub fn refuse_at(source: &[u8], at: usize) -> Part
-    ensures { λ r. ⌜ r ≡ partOf {A = ℕ} (refuse (tokenAt (now (source .entry)) at)) ⌝ }
+fn refused(t: Token) -> Part
+    ensures { λ r. ⌜ r ≡ partOf {A = ℕ} (refuse t) ⌝ }
 {
-    let t = token_at(source, at);
     if t.kind == kind::NAME {
         return fail_at(t, failures::WRONG_NAME);
     }
     fail_at(t, failures::NOT_ALLOWED)
+}
+
+pub fn refuse_at(source: &[u8], at: usize) -> Part
+    ensures { λ r. ⌜ r ≡ partOf {A = ℕ} (refuse (tokenAt (now (source .entry)) at)) ⌝ }
+{
+    refused(token_at(source, at))
 }
 
 // The id of a number at a level of the table.
@@ -200,15 +207,10 @@ fn symbol_of(level: u16, kind: Kind) -> Symbol
     }
 }
 
-// What the token at an offset stands for as a name, by the table's first `names` entries.
-pub fn symbol_at(source: &[u8], table: &[u16], names: usize, at: usize) -> Symbol
-    ensures { λ r. ⌜ treeSymbol r ≡ symbolAt (now (source .entry)) (heldBy names (now (table .entry))) (tokenAt (now (source .entry)) at) ⌝ }
+// What a name stands for, by the table's first `names` entries.
+fn symbol_named(table: &[u16], names: usize, name: Packed) -> Symbol
+    ensures { λ r. ⌜ treeSymbol r ≡ symbolOf (heldBy names (now (table .entry))) (unpack name) ⌝ }
 {
-    let t = token_at(source, at);
-    if t.kind != kind::NAME {
-        return Symbol::Unknown;
-    }
-    let name = pack(source, t);
     if is_x(name) {
         return Symbol::Integer { id: Id::X };
     }
@@ -219,23 +221,43 @@ pub fn symbol_at(source: &[u8], table: &[u16], names: usize, at: usize) -> Symbo
     symbol_of(level, kind)
 }
 
+// What a token stands for as a name.
+fn symbol_by(source: &[u8], table: &[u16], names: usize, t: Token) -> Symbol
+    ensures { λ r. ⌜ treeSymbol r ≡ symbolBy (now (source .entry)) (heldBy names (now (table .entry))) t ⌝ }
+{
+    if t.kind != kind::NAME {
+        return Symbol::Unknown;
+    }
+    symbol_named(table, names, pack(source, t))
+}
+
+// What a token stands for: a numeral for its value, as a compconstant's name does.
+fn meaning_by(source: &[u8], table: &[u16], names: usize, t: Token) -> Symbol
+    ensures { λ r. ⌜ treeSymbol r ≡ meaningBy (now (source .entry)) (heldBy names (now (table .entry))) t ⌝ }
+{
+    if t.kind == kind::NUMERAL {
+        return Symbol::Compconstant { value: t.value };
+    }
+    symbol_by(source, table, names, t)
+}
+
+pub fn symbol_at(source: &[u8], table: &[u16], names: usize, at: usize) -> Symbol
+    ensures { λ r. ⌜ treeSymbol r ≡ symbolAt (now (source .entry)) (heldBy names (now (table .entry))) (tokenAt (now (source .entry)) at) ⌝ }
+{
+    symbol_by(source, table, names, token_at(source, at))
+}
+
 pub fn constant_at(source: &[u8], table: &[u16], names: usize, at: usize) -> ConstantAnswer
     ensures { λ r. ⌜ gotWith (r .part) (r .value) ≡ parseConstant (now (source .entry)) (heldBy names (now (table .entry))) at ⌝ }
 {
     let t = token_at(source, at);
     let part = Part::Read { next: t.next };
-    if t.kind == kind::NUMERAL {
-        return ConstantAnswer {
-            part,
-            value: t.value,
-        };
-    }
-    let symbol = symbol_at(source, table, names, at);
+    let symbol = meaning_by(source, table, names, t);
     match symbol {
         Symbol::Constant { id: _, value } => ConstantAnswer { part, value },
         Symbol::Compconstant { value } => ConstantAnswer { part, value },
         _ => ConstantAnswer {
-            part: refuse_at(source, at),
+            part: refused(t),
             value: 0,
         },
     }
@@ -289,18 +311,11 @@ pub fn size_at(source: &[u8], table: &[u16], names: usize, at: usize) -> Constan
     }
 }
 
-pub fn operand_at(source: &[u8], table: &[u16], names: usize, at: usize) -> OperandAnswer
-    ensures { λ r. ⌜ gotWith (r .part) (treeOperand (r .operand)) ≡ operandOf (now (source .entry)) (heldBy names (now (table .entry))) (tokenAt (now (source .entry)) at) ⌝ }
+// A token as an operand, by what it stands for.
+fn operand_of(t: Token, symbol: Symbol) -> OperandAnswer
+    ensures { λ r. ⌜ gotWith (r .part) (treeOperand (r .operand)) ≡ operandBy (treeSymbol symbol) t ⌝ }
 {
-    let t = token_at(source, at);
     let part = Part::Read { next: t.next };
-    if t.kind == kind::NUMERAL {
-        return OperandAnswer {
-            part,
-            operand: Operand::Literal { value: t.value },
-        };
-    }
-    let symbol = symbol_at(source, table, names, at);
     match symbol {
         Symbol::Integer { id } => OperandAnswer {
             part,
@@ -315,7 +330,7 @@ pub fn operand_at(source: &[u8], table: &[u16], names: usize, at: usize) -> Oper
             operand: Operand::Literal { value },
         },
         _ => OperandAnswer {
-            part: refuse_at(source, at),
+            part: refused(t),
             operand: Operand::Literal { value: 0 },
         },
     }
@@ -332,7 +347,7 @@ fn inner_subscript_at(source: &[u8], table: &[u16], names: usize, at: usize) -> 
             subscript: Subscript::Hash,
         };
     }
-    let read = operand_at(source, table, names, at);
+    let read = operand_of(t, meaning_by(source, table, names, t));
     let part = read.part;
     let operand = read.operand;
     SubscriptAnswer {
@@ -362,12 +377,12 @@ pub fn subscript_at(source: &[u8], table: &[u16], names: usize, at: usize) -> Su
     SubscriptAnswer { part, subscript }
 }
 
-pub fn cell_start_at(source: &[u8], table: &[u16], names: usize, at: usize) -> CellStartAnswer
-    ensures { λ r. ⌜ gotWith (r .part) (treeCellStart (r .start)) ≡ cellStart (now (source .entry)) (heldBy names (now (table .entry))) (tokenAt (now (source .entry)) at) ⌝ }
+// A cell's first token, by what it stands for.
+fn cell_start_of(t: Token, symbol: Symbol) -> CellStartAnswer
+    ensures { λ r. ⌜ gotWith (r .part) (treeCellStart (r .start)) ≡ cellBy (treeSymbol symbol) t ⌝ }
 {
-    let symbol = symbol_at(source, table, names, at);
     let Symbol::Array { array } = symbol else {
-        let read = operand_at(source, table, names, at);
+        let read = operand_of(t, symbol);
         let part = read.part;
         let operand = read.operand;
         return CellStartAnswer {
@@ -375,7 +390,6 @@ pub fn cell_start_at(source: &[u8], table: &[u16], names: usize, at: usize) -> C
             start: CellStart::Whole { operand },
         };
     };
-    let t = token_at(source, at);
     CellStartAnswer {
         part: Part::Read { next: t.next },
         start: CellStart::Element { array },
@@ -419,7 +433,8 @@ fn no_cell() -> Cell {
 pub fn cell_at(source: &[u8], table: &[u16], names: usize, at: usize) -> CellAnswer
     ensures { λ r. ⌜ gotWith (r .part) (treeCell (r .cell)) ≡ parseCell (now (source .entry)) (heldBy names (now (table .entry))) at ⌝ }
 {
-    let read = cell_start_at(source, table, names, at);
+    let t = token_at(source, at);
+    let read = cell_start_of(t, meaning_by(source, table, names, t));
     let part = read.part;
     let start = read.start;
     let Part::Read { next } = part else {
@@ -450,24 +465,22 @@ pub fn lone_cell_at(source: &[u8], table: &[u16], names: usize, at: usize) -> Ce
     read
 }
 
-// A term that is a call or begins like a cell.
-fn named_term_at(source: &[u8], table: &[u16], names: usize, at: usize) -> TermAnswer
-    ensures { λ r. ⌜ gotWith (r .part) (treeTermStart (r .start)) ≡ namedTerm (now (source .entry)) (heldBy names (now (table .entry))) (tokenAt (now (source .entry)) at) ⌝ }
+// A term that is a call or begins like a cell, by what its first token stands for.
+fn named_term_of(t: Token, symbol: Symbol) -> TermAnswer
+    ensures { λ r. ⌜ gotWith (r .part) (treeTermStart (r .start)) ≡ termBy (treeSymbol symbol) t ⌝ }
 {
-    let symbol = symbol_at(source, table, names, at);
     if let Symbol::Procedure {
         number,
         accumulator,
     } = symbol {
         if accumulator {
-            let t = token_at(source, at);
             return TermAnswer {
                 part: Part::Read { next: t.next },
                 start: TermStart::Call { number },
             };
         }
     }
-    let read = cell_start_at(source, table, names, at);
+    let read = cell_start_of(t, symbol);
     let part = read.part;
     let start = read.start;
     TermAnswer {
@@ -495,7 +508,7 @@ pub fn term_start_at(source: &[u8], table: &[u16], names: usize, at: usize) -> T
             part,
             start: TermStart::Bracket,
         },
-        _ => named_term_at(source, table, names, at),
+        _ => named_term_of(t, meaning_by(source, table, names, t)),
     }
 }
 
@@ -520,10 +533,9 @@ pub fn too_deep_at(source: &[u8], table: &[u16], names: usize, at: usize) -> Par
 }
 
 // A statement that does not begin with a name.
-fn opening_at(source: &[u8], at: usize) -> StatementAnswer
-    ensures { λ r. ⌜ gotWith (r .part) (treeStatementStart (r .start)) ≡ opening (tokenAt (now (source .entry)) at) ⌝ }
+fn opening_of(t: Token) -> StatementAnswer
+    ensures { λ r. ⌜ gotWith (r .part) (treeStatementStart (r .start)) ≡ opening t ⌝ }
 {
-    let t = token_at(source, at);
     let kind = t.kind;
     let start = match kind {
         kind::AT => StatementStart::Accumulator,
@@ -535,7 +547,7 @@ fn opening_at(source: &[u8], at: usize) -> StatementAnswer
         kind::BEGIN => StatementStart::Compound,
         _ => {
             return StatementAnswer {
-                part: refuse_at(source, at),
+                part: refused(t),
                 start: StatementStart::Hash,
             };
         }
@@ -551,7 +563,7 @@ pub fn statement_start_at(source: &[u8], table: &[u16], names: usize, at: usize)
 {
     let t = token_at(source, at);
     let part = Part::Read { next: t.next };
-    let symbol = symbol_at(source, table, names, at);
+    let symbol = symbol_by(source, table, names, t);
     match symbol {
         Symbol::Integer { id } => StatementAnswer {
             part,
@@ -568,6 +580,6 @@ pub fn statement_start_at(source: &[u8], table: &[u16], names: usize, at: usize)
             part,
             start: StatementStart::Call { number },
         },
-        _ => opening_at(source, at),
+        _ => opening_of(t),
     }
 }

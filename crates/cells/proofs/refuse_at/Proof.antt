@@ -1,8 +1,4 @@
 -- `cells::refuse_at` meets its contract. Assumes nothing.
-use borrow.Author.Tests.{eq-eqb, ne-eqb}
-use Rattle.syntax.specs.Parse.{failAt}
-use Rattle.syntax.specs.Cells.{refuse}
-use Rattle.cells.specs.Answers.{partOf}
 use borrow.Author.Needs.{needs}
 use Rattle.cells.proofs.refuse_at.Statement.{statement}
 use Rattle.cells.proofs.refuse_at.Tie as tie
@@ -10,20 +6,11 @@ use Rattle.cells.proofs.refuse_at.Tie as tie
 token-at-requires : tie.Need-token-at-requires
 token-at-requires c κs = search needs
 
-fail-at-requires : tie.Need-fail-at-requires
-fail-at-requires c κs = search needs
+refused-requires : tie.Need-refused-requires
+refused-requires c κs = search needs
 
 returns : tie.Need-returns
-unfolding refuse partOf failAt
-returns c = rw (← (c .before .before .before .token-at .ensures), eq-eqb _ _ (c .before .if1 .taken)) (c .fail-at .ensures)
-
-fail-at-requires-2 : tie.Need-fail-at-requires-2
-fail-at-requires-2 c κs = search needs
-
-returns-2 : tie.Need-returns-2
-unfolding refuse partOf failAt
-returns-2 c = rw (← (c .before .before .before .token-at .ensures), ne-eqb _ _ (c .before .if1 .left)) (c .fail-at2 .ensures)
+returns c = rw (← (c .before .token-at .ensures)) (c .refused .ensures)
 
 pub refuse-at-spec : {M : Type 1} → statement M
-refuse-at-spec =
-    tie.close (tie.spec token-at-requires fail-at-requires returns fail-at-requires-2 returns-2)
+refuse-at-spec = tie.close (tie.spec token-at-requires refused-requires returns)

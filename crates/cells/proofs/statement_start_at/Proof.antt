@@ -9,8 +9,8 @@ use Rattle.cells.proofs.statement_start_at.Tie as tie
 token-at-requires : tie.Need-token-at-requires
 token-at-requires c κs = search needs
 
-symbol-at-requires : tie.Need-symbol-at-requires
-symbol-at-requires c κs = search needs
+symbol-by-requires : tie.Need-symbol-by-requires
+symbol-by-requires c κs = search needs
 
 enum-known-symbol : tie.Need-enum-known-symbol
 enum-known-symbol c = search needs
@@ -21,36 +21,36 @@ enum-known-symbol-2 c = search needs
 enum-known-symbol-3 : tie.Need-enum-known-symbol-3
 enum-known-symbol-3 c = search needs
 
-opening-at-requires : tie.Need-opening-at-requires
-opening-at-requires c κs = search needs
+opening-of-requires : tie.Need-opening-of-requires
+opening-of-requires c κs = search needs
 
 returns : tie.Need-returns
 unfolding gotWith asInteger asArray asProcedure treeSymbol treeStatementStart
-returns c = rw (statement-by _ _ _ (c .before .before .before .symbol-at .result) (c .before .before .before .symbol-at .ensures), c .before .symbol .given .1, c .before .before .before .before .token-at .ensures)
+returns c = rw (statement-by _ _ _ (c .before .before .before .before .token-at .ensures) (c .before .before .before .symbol-by .result) (c .before .before .before .symbol-by .ensures), c .before .symbol .given .1)
 
 returns-2 : tie.Need-returns-2
 unfolding gotWith asInteger asArray asProcedure treeSymbol treeStatementStart
-returns-2 c = rw (statement-by _ _ _ (c .before .before .before .symbol-at .result) (c .before .before .before .symbol-at .ensures), c .before .symbol2 .given .1, c .before .before .before .before .token-at .ensures)
+returns-2 c = rw (statement-by _ _ _ (c .before .before .before .before .token-at .ensures) (c .before .before .before .symbol-by .result) (c .before .before .before .symbol-by .ensures), c .before .symbol2 .given .1)
 
 returns-3 : tie.Need-returns-3
 unfolding gotWith asInteger asArray asProcedure treeSymbol treeStatementStart
-returns-3 c = rw (statement-by _ _ _ (c .before .before .before .symbol-at .result) (c .before .before .before .symbol-at .ensures), c .before .symbol3 .given .1, c .before .before .before .before .token-at .ensures)
+returns-3 c = rw (statement-by _ _ _ (c .before .before .before .before .token-at .ensures) (c .before .before .before .symbol-by .result) (c .before .before .before .symbol-by .ensures), c .before .symbol3 .given .1)
 
 returns-4 : tie.Need-returns-4
 returns-4 c =
-    let n = no-start (c .before .before .symbol-at .result) (c .before .match .keys4) in
-    rw (statement-by _ _ _ (c .before .before .symbol-at .result) (c .before .before .symbol-at .ensures), n .integer, n .array, n .procedure) (c .opening-at .ensures)
+    let n = no-start (c .before .before .symbol-by .result) (c .before .match .keys4) in
+    rw (statement-by _ _ _ (c .before .before .before .token-at .ensures) (c .before .before .symbol-by .result) (c .before .before .symbol-by .ensures), n .integer, n .array, n .procedure) (c .opening-of .ensures)
 
 pub statement-start-at-spec : {M : Type 1} → statement M
 statement-start-at-spec =
     tie.close
     (tie.spec
     token-at-requires
-    symbol-at-requires
+    symbol-by-requires
     enum-known-symbol
     enum-known-symbol-2
     enum-known-symbol-3
-    opening-at-requires
+    opening-of-requires
     returns
     returns-2
     returns-3
