@@ -3,13 +3,13 @@
 use cells::Part;
 use cells::StatementStart as Start;
 use cells::Symbol;
+use cells::cell::lone_cell_at;
+use cells::cell::subscript_at;
 use cells::expect;
 use cells::fail_at;
 use cells::failures;
-use cells::lone_cell_at;
+use cells::openings::statement_start_at;
 use cells::refuse_at;
-use cells::statement_start_at;
-use cells::subscript_at;
 use cells::symbol_at;
 use emitter::Context;
 use emitter::Output;

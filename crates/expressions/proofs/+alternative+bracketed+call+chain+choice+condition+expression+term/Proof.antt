@@ -40,8 +40,8 @@ use Rattle.expressions.proofs.term.Reads as term
 use Rattle.expressions.proofs.term.Kinds as term-kinds
 use Rattle.expressions.proofs.+alternative+bracketed+call+chain+choice+condition+expression+term.Lts-term as term-lts
 use Rattle.cells.proofs.expect.Reads as expect-reads
-use Rattle.cells.proofs.term_start_at.Reads as term-start-at-reads
-use Rattle.cells.proofs.too_deep_at.Reads as too-deep-at-reads
+use Rattle.cells.proofs.openings.term_start_at.Reads as term-start-at-reads
+use Rattle.cells.proofs.openings.too_deep_at.Reads as too-deep-at-reads
 use Rattle.emitter.proofs.emit_generic.Reads as emit-generic-reads
 use Rattle.emitter.proofs.emit_through.Reads as emit-through-reads
 use Rattle.emitter.proofs.fill_jump.Reads as fill-jump-reads

@@ -64,7 +64,7 @@ use Rattle.expressions.proofs.call.Reads as call-reads
 use Rattle.expressions.proofs.condition.Reads as condition-reads
 use Rattle.expressions.proofs.relation.emit_hole.Reads as emit-hole-reads
 use Rattle.cells.proofs.fail_at.Reads as fail-at-reads
-use Rattle.cells.proofs.statement_start_at.Reads as statement-start-at-reads
+use Rattle.cells.proofs.openings.statement_start_at.Reads as statement-start-at-reads
 use Rattle.statements.proofs.+compound+for_statement+form+if_statement+listed+statement+when_statement+while_statement.{
   statement,
 }

@@ -1,0 +1,31 @@
+-- `cell::cell_from` meets its contract. Assumes nothing.
+use Rattle.syntax.specs.Cells.{cellFrom}
+use Rattle.syntax.specs.Tree.{Cell}
+use Rattle.operands.specs.Trees.{treeCell}
+use Rattle.cells.specs.Answers.{gotWith, treeCellStart}
+use Rattle.cells.proofs.Laws.{then-with}
+use borrow.Author.Needs.{needs}
+use Rattle.cells.proofs.cell.cell_from.Statement.{statement}
+use Rattle.cells.proofs.cell.cell_from.Tie as tie
+
+enum-known-start : tie.Need-enum-known-start
+enum-known-start c = search needs
+
+enum-known-start-2 : tie.Need-enum-known-start-2
+enum-known-start-2 c = search needs
+
+subscript-at-requires : tie.Need-subscript-at-requires
+subscript-at-requires c κs = search needs
+
+returns : tie.Need-returns
+unfolding gotWith cellFrom treeCell treeCellStart
+returns c = rw (c .before .start .given .1)
+
+returns-2 : tie.Need-returns-2
+unfolding cellFrom treeCell treeCellStart
+returns-2 c = rw (c .before .before .start2 .given .1) (then-with _ _ (Cell.item _) (c .subscript-at .ensures))
+
+pub cell-from-spec : {M : Type 1} → statement M
+cell-from-spec =
+    tie.close
+    (tie.spec enum-known-start enum-known-start-2 subscript-at-requires returns returns-2)

@@ -1,0 +1,36 @@
+-- `cell::inner_subscript_at` meets its contract. Assumes nothing.
+use mathlib.Core.Path.{sym, _∙_}
+use borrow.Author.Tests.{ne-eqb}
+use Rattle.syntax.specs.Cells.{subscriptOf}
+use Rattle.syntax.specs.Tree.{Subscript}
+use Rattle.operands.specs.Trees.{treeSubscript}
+use Rattle.cells.specs.Answers.{gotWith}
+use Rattle.cells.proofs.Laws.{then-with}
+use Rattle.cells.proofs.Names.{operand-by}
+use borrow.Author.Needs.{needs}
+use Rattle.cells.proofs.cell.inner_subscript_at.Statement.{statement}
+use Rattle.cells.proofs.cell.inner_subscript_at.Tie as tie
+
+token-at-requires : tie.Need-token-at-requires
+token-at-requires c κs = search needs
+
+returns : tie.Need-returns
+unfolding gotWith subscriptOf treeSubscript
+returns c = rw (← (c .before .before .token-at .ensures), c .if1 .taken)
+
+meaning-by-requires : tie.Need-meaning-by-requires
+meaning-by-requires c κs = search needs
+
+operand-of-requires : tie.Need-operand-of-requires
+operand-of-requires c κs = search needs
+
+returns-2 : tie.Need-returns-2
+unfolding subscriptOf treeSubscript
+returns-2 c =
+    let e = c .before .before .before .before .token-at .ensures in
+    rw (← e, ne-eqb _ _ (c .before .before .if1 .left)) (then-with _ _ Subscript.by (rw (← e) at (c .operand-of .ensures ∙ sym (operand-by _ _ _ e _ (c .before .meaning-by .ensures)))))
+
+pub inner-subscript-at-spec : {M : Type 1} → statement M
+inner-subscript-at-spec =
+    tie.close
+    (tie.spec token-at-requires returns meaning-by-requires operand-of-requires returns-2)

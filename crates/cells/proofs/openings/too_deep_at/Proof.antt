@@ -1,0 +1,71 @@
+-- `openings::too_deep_at` meets its contract: by the token's kind: `.IF`, a unary word, or neither. Assumes nothing.
+use Rattle.syntax.specs.Tree.{Expr}
+use Rattle.cells.proofs.Laws.{got-read, pass-on, then-got, failed-part}
+use mathlib.Core.Path.{_∙_}
+use mathlib.Core.Logic.{⊎-elim}
+use mathlib.Core.Logic.{inl, inr}
+use Rattle.cells.proofs.Starts.{deep-if, deep-unary, deep-term}
+use borrow.Author.Needs.{needs}
+use Rattle.cells.proofs.openings.too_deep_at.Statement.{statement}
+use Rattle.cells.proofs.openings.too_deep_at.Tie as tie
+
+token-at-requires : tie.Need-token-at-requires
+token-at-requires c κs = search needs
+
+fail-at-requires : tie.Need-fail-at-requires
+fail-at-requires c κs = search needs
+
+fail-at-requires-2 : tie.Need-fail-at-requires-2
+fail-at-requires-2 c κs = search needs
+
+term-start-at-requires : tie.Need-term-start-at-requires
+term-start-at-requires c κs = search needs
+
+enum-told : tie.Need-enum-told
+enum-told c = search needs
+
+enum-told-2 : tie.Need-enum-told-2
+enum-told-2 c = search needs
+
+returns : tie.Need-returns
+returns c =
+    let t = c .before .before .before .before .before .token-at .result in
+    let e = c .before .before .before .before .before .token-at .ensures in
+    rw (← e, deep-term _ _ t (c .before .before .before .before .match .rest .1) (⊎-elim (λ w. inl (w .taken)) (λ w. inr (w .1 .left)) (c .before .before .before .if1 .came))) (pass-on _ _ (rw (← e) at (c .before .before .term-start-at .ensures)) (c .enum-told2 .given .1))
+
+fail-at-requires-3 : tie.Need-fail-at-requires-3
+fail-at-requires-3 c κs = search needs
+
+returns-2 : tie.Need-returns-2
+returns-2 c =
+    let t = c .before .before .token-at .result in
+    let e = c .before .before .token-at .ensures in
+    rw (← e, deep-if _ _ t (c .before .match .keys1)) (c .fail-at .ensures ∙ failed-part Expr t 9)
+
+returns-3 : tie.Need-returns-3
+returns-3 c =
+    let t = c .before .before .before .before .token-at .result in
+    let e = c .before .before .before .before .token-at .ensures in
+    rw (← e, deep-unary _ _ t (c .before .before .before .match .rest .1) (c .before .before .if1 .left) (c .before .if2 .taken)) (c .fail-at2 .ensures ∙ failed-part Expr t 9)
+
+returns-4 : tie.Need-returns-4
+returns-4 c =
+    let t = c .before .before .before .before .before .before .token-at .result in
+    let e = c .before .before .before .before .before .before .token-at .ensures in
+    rw (← e, deep-term _ _ t (c .before .before .before .before .before .match .rest .1) (⊎-elim (λ w. inl (w .taken)) (λ w. inr (w .1 .left)) (c .before .before .before .before .if1 .came)), then-got _ (got-read (rw (← e) at (c .before .before .before .term-start-at .ensures)) (c .before .enum-told .given .1))) (c .fail-at3 .ensures ∙ failed-part Expr t 9)
+
+pub too-deep-at-spec : {M : Type 1} → statement M
+too-deep-at-spec =
+    tie.close
+    (tie.spec
+    token-at-requires
+    fail-at-requires
+    fail-at-requires-2
+    term-start-at-requires
+    enum-told
+    enum-told-2
+    returns
+    fail-at-requires-3
+    returns-2
+    returns-3
+    returns-4)

@@ -1,0 +1,150 @@
+// The first token of a term or of a statement.
+ghost use mathlib.Core.Path.{_≡_};
+ghost use Rattle.source.specs.Tokens.{tokenAt};
+ghost use Rattle.syntax.specs.Expressions.{termStart, tooDeepExpr};
+ghost use Rattle.syntax.specs.Statements.{stmtStart};
+ghost use Rattle.symbols.specs.Table.{heldBy};
+ghost use Rattle.cells.specs.Starts.{termBy, opening};
+ghost use Rattle.cells.specs.Answers.{partOf, gotWith, treeSymbol, treeTermStart, treeStatementStart};
+use crate::Part;
+use crate::StatementStart;
+use crate::Symbol;
+use crate::TermStart;
+use crate::cell::cell_start_of;
+use crate::fail_at;
+use crate::failures;
+use crate::meaning::meaning_by;
+use crate::meaning::symbol_by;
+use crate::refused;
+use source::Token;
+use source::kind;
+use source::token_at;
+
+pub struct TermAnswer {
+    pub part: Part,
+    pub start: TermStart,
+}
+
+pub struct StatementAnswer {
+    pub part: Part,
+    pub start: StatementStart,
+}
+
+// A term that is a call or begins like a cell, by what its first token stands for.
+fn named_term_of(t: Token, symbol: Symbol) -> TermAnswer
+    ensures { λ r. ⌜ gotWith (r .part) (treeTermStart (r .start)) ≡ termBy (treeSymbol symbol) t ⌝ }
+{
+    if let Symbol::Procedure {
+        number,
+        accumulator,
+    } = symbol {
+        if accumulator {
+            return TermAnswer {
+                part: Part::Read { next: t.next },
+                start: TermStart::Call { number },
+            };
+        }
+    }
+    let read = cell_start_of(t, symbol);
+    let part = read.part;
+    let start = read.start;
+    TermAnswer {
+        part,
+        start: TermStart::Cell { start },
+    }
+}
+
+pub fn term_start_at(source: &[u8], table: &[u16], names: usize, at: usize) -> TermAnswer
+    ensures { λ r. ⌜ gotWith (r .part) (treeTermStart (r .start)) ≡ termStart (now (source .entry)) (heldBy names (now (table .entry))) (tokenAt (now (source .entry)) at) ⌝ }
+{
+    let t = token_at(source, at);
+    let part = Part::Read { next: t.next };
+    let kind = t.kind;
+    match kind {
+        kind::AT => TermAnswer {
+            part,
+            start: TermStart::Accumulator,
+        },
+        kind::ZERO => TermAnswer {
+            part,
+            start: TermStart::Zero,
+        },
+        kind::LEFT_PARENTHESIS => TermAnswer {
+            part,
+            start: TermStart::Bracket,
+        },
+        _ => named_term_of(t, meaning_by(source, table, names, t)),
+    }
+}
+
+// An expression at a level too many.
+pub fn too_deep_at(source: &[u8], table: &[u16], names: usize, at: usize) -> Part
+    ensures { λ r. ⌜ r ≡ partOf (tooDeepExpr (now (source .entry)) (heldBy names (now (table .entry))) (tokenAt (now (source .entry)) at)) ⌝ }
+{
+    let t = token_at(source, at);
+    let kind = t.kind;
+    match kind {
+        kind::IF => fail_at(t, failures::TOO_DEEP),
+        kind::ADDC..=kind::ABS => fail_at(t, failures::TOO_DEEP),
+        _ => {
+            let read = term_start_at(source, table, names, at);
+            let part = read.part;
+            let Part::Read { next: _ } = part else {
+                return part;
+            };
+            fail_at(t, failures::TOO_DEEP)
+        }
+    }
+}
+
+// A statement that does not begin with a name.
+fn opening_of(t: Token) -> StatementAnswer
+    ensures { λ r. ⌜ gotWith (r .part) (treeStatementStart (r .start)) ≡ opening t ⌝ }
+{
+    let kind = t.kind;
+    let start = match kind {
+        kind::AT => StatementStart::Accumulator,
+        kind::HASH => StatementStart::Hash,
+        kind::IF => StatementStart::If,
+        kind::WHEN => StatementStart::When,
+        kind::WHILE => StatementStart::While,
+        kind::FOR => StatementStart::For,
+        kind::BEGIN => StatementStart::Compound,
+        _ => {
+            return StatementAnswer {
+                part: refused(t),
+                start: StatementStart::Hash,
+            };
+        }
+    };
+    StatementAnswer {
+        part: Part::Read { next: t.next },
+        start,
+    }
+}
+
+pub fn statement_start_at(source: &[u8], table: &[u16], names: usize, at: usize) -> StatementAnswer
+    ensures { λ r. ⌜ gotWith (r .part) (treeStatementStart (r .start)) ≡ stmtStart (now (source .entry)) (heldBy names (now (table .entry))) (tokenAt (now (source .entry)) at) ⌝ }
+{
+    let t = token_at(source, at);
+    let part = Part::Read { next: t.next };
+    let symbol = symbol_by(source, table, names, t);
+    match symbol {
+        Symbol::Integer { id } => StatementAnswer {
+            part,
+            start: StatementStart::Integer { id },
+        },
+        Symbol::Array { array } => StatementAnswer {
+            part,
+            start: StatementStart::Element { array },
+        },
+        Symbol::Procedure {
+            number,
+            accumulator: _,
+        } => StatementAnswer {
+            part,
+            start: StatementStart::Call { number },
+        },
+        _ => opening_of(t),
+    }
+}
