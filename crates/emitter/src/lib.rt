@@ -22,7 +22,7 @@ use operands::Operand;
 use operands::Subscript;
 
 // The last address that 16 bits hold, far above the memory.
-const LAST_ADDRESS: u16 = 65535;
+pub const LAST_ADDRESS: u16 = 65535;
 
 // As many words as a sector has: no sector holds a longer pool.
 const POOL_WORDS: usize = 512;

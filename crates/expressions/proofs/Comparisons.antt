@@ -1,6 +1,6 @@
 -- What follows a condition's expression, and the condition of both. Assumes nothing.
 use Prim.Native.Nat.{ℕ, suc, _+_, _-_, _≤_, _<_}
-use mathlib.Core.Path.{_≡_, refl, sym, ap, ap₂, _∙_}
+use mathlib.Core.Path.{_≡_, refl, sym, ap, _∙_}
 use mathlib.Core.List.{List, [], _∷_}
 use mathlib.Core.Option.{Option, none, some}
 use native.Mathlib.Omega.{arith}
@@ -15,20 +15,19 @@ use Rattle.syntax.specs.Symbols.{Names}
 use Rattle.syntax.specs.Parse.{Got, andThen, failAt}
 use Rattle.syntax.specs.Parse.Got.{got, failed}
 use Rattle.syntax.specs.Words.{relations, tests, bares, asOneOf}
-use Rattle.syntax.specs.Emission.{Sym, _⧺_, cellWords, controls, controlWords, testSlot, bareSlot, exprEnd, condEnd, exprWords, condWords}
+use Rattle.syntax.specs.Emission.{Sym, _⧺_, cellWords, controls, controlWords, testSlot, bareSlot, condEnd, exprWords, condWords}
 use Rattle.syntax.specs.Cells.{parseLoneCell}
 use Rattle.syntax.specs.Expressions.{condFrom, parseCond}
 use Rattle.cells.specs.declared.Part.{Part}
-use Rattle.emitter.specs.Emitted.{Emitted, Bases, emitAll}
-use Rattle.emitter.specs.Lays.{Lays, Holed}
-use Rattle.emitter.proofs.Lays.{words, after-words, same-holed}
+use Rattle.emitter.specs.Emitted.{Emitted, Bases}
+use Rattle.emitter.proofs.Lays.{after-words, same-holed}
 use Rattle.emitter.proofs.Ends.{expr-end}
 use Rattle.expressions.specs.Words.{numberIn}
 use Rattle.expressions.specs.Chains.{Comparison, condOf, comparisonOf, relationWords, comparisonWords}
-use Rattle.expressions.specs.Compiles.{Compiles, Tests, AlwaysHoled, Related}
+use Rattle.expressions.specs.Compiles.{Compiles, Tests, Compares, AlwaysHoled, Related}
 use Rattle.expressions.proofs.Tables.{as-row, as-some, as-none}
 use Rattle.cells.proofs.Laws.{then-got, then-failed}
-use Rattle.expressions.proofs.Laws.{came, failed-as}
+use Rattle.expressions.proofs.Laws.{came, failed-as, test-as}
 
 pub none-left : (n : ℕ) → n ≤ 0 → 0 ≡ n
 none-left n h = omega (arith, h)
@@ -38,19 +37,22 @@ less-one n m e = omega (arith, e)
 
 -- ---- A comparison
 
-module _ (source : List ℕ) (names : Names) (at : ℕ) (t : Token) (e : t ≡ tokenAt source at) {f : Bases} where
-  pub relation-failed : {a b : Emitted} {place k p : ℕ} (n : ℕ) → n ≡ numberIn relations (λ _. 0) (t .kind) → 0 < n → parseLoneCell source names (t .next) ≡ failed k p
-      → Tests f comparisonWords a b place (Part.Failed k p) (comparisonOf source names (tokenAt source at))
-  unfolding comparisonOf
-  relation-failed n q h g = let r = as-row relations (λ _. 0) (t .kind) n q h in Tests.fails (ap (comparisonOf source names) (sym e) ∙ (as-some relations (λ _. 0) t _ _ r ∙ then-failed _ g)) refl
+-- after the relation
+module _ {f : Bases} {kind : ℕ} {a b : Emitted} {part : Part} {g : Got Cell} (h : Compiles f (λ c _. cellWords CAS c) a b part g) where
+  pub related-failed : {a′ b′ : Emitted} {place k p : ℕ} → part ≡ Part.Failed k p → Compares f kind a′ b′ place part g
+  related-failed q = record { tests = λ i. Tests.fails (then-failed _ (failed-as h q)) q }
 
-  pub relation-read : {a b c : Emitted} {cell : Cell} {place next : ℕ} (n : ℕ) → n ≡ numberIn relations (λ _. 0) (t .kind) → 0 < n → parseLoneCell source names (t .next) ≡ got cell next
-      → b ≡ emitAll f a (cellWords CAS cell) → Related (t .kind) b c place → Tests f comparisonWords a c place (Part.Read next) (comparisonOf source names (tokenAt source at))
-  unfolding comparisonOf comparisonWords
-  relation-read {cell = cell} n q h g i k =
-      let r = as-row relations (λ _. 0) (t .kind) n q h in
-      Tests.read (ap (comparisonOf source names) (sym e) ∙ (as-some relations (λ _. 0) t _ _ r ∙ then-got _ g)) refl
-      (same-holed (λ at z. refl) (after-words (rw i (words (cellWords CAS cell))) (k .holed f (r .found))))
+  pub related-read : {c : Emitted} {place n : ℕ} → part ≡ Part.Read n → Related kind b c place → Compares f kind a c place part g
+  unfolding comparisonWords
+  related-read q k =
+      let v = came h q in record { tests = λ i. Tests.read (then-got _ (v .is)) q (same-holed (λ at z. refl) (after-words (v .lays) (k .holed f i))) }
+
+module _ (source : List ℕ) (names : Names) (at : ℕ) (t : Token) (e : t ≡ tokenAt source at) {f : Bases} where
+  pub relation-compared : {a b : Emitted} {place : ℕ} {part : Part} (n : ℕ) → n ≡ numberIn relations (λ _. 0) (t .kind) → 0 < n
+      → Compares f (t .kind) a b place part (parseLoneCell source names (t .next)) → Tests f comparisonWords a b place part (comparisonOf source names (tokenAt source at))
+  unfolding comparisonOf
+  relation-compared n q h k =
+      let r = as-row relations (λ _. 0) (t .kind) n q h in test-as (k .tests (r .found)) (ap (comparisonOf source names) (sym e) ∙ as-some relations (λ _. 0) t _ _ r)
 
   pub test-read : {a b : Emitted} {place : ℕ} (n : ℕ) → 0 ≡ numberIn relations (λ _. 0) (t .kind) → n ≡ numberIn tests testSlot (t .kind) → 0 < n
       → AlwaysHoled a b (λ at z. Sym.generic (n - 1) ∷ Sym.jump z ∷ []) place → Tests f comparisonWords a b place (Part.Read (t .next)) (comparisonOf source names (tokenAt source at))

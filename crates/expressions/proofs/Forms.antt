@@ -7,12 +7,12 @@ use mathlib.Core.Option.{Option, none, some}
 use native.Mathlib.Omega.{arith}
 use borrow.Author.Tests.{eq-eqb, ne-eqb}
 use lib.Dec.{eqb}
-use lib.ListN.{length, getD}
+use lib.ListN.{getD}
 use Rattle.source.specs.Bytes.{whether, find, given}
 use Rattle.source.specs.Kinds
 use Rattle.source.specs.declared.Token.{Token}
 use Rattle.source.specs.Tokens.{tokenAt, failureAt}
-use Rattle.instruction.specs.Code.{JMP, LDA, JST}
+use Rattle.instruction.specs.Code.{LDA, JST}
 use Rattle.instruction.specs.Slot.{CRA}
 use Rattle.instruction.specs.Table.{tableOf}
 use Rattle.syntax.specs.Tree.{Unary, Operation, Cell, Expr, Term, Cond}
@@ -21,7 +21,7 @@ use Rattle.syntax.specs.Parse.{Got, andThen, failAt, expect}
 use Rattle.syntax.specs.Words.{unaries}
 use Rattle.syntax.specs.Cells.{cellFrom}
 use Rattle.syntax.specs.Parse.Got.{got, failed}
-use Rattle.syntax.specs.Emission.{Sym, _⧺_, cellWords, callWord, unariesWords, operationsWords, exprEnd, condEnd, exprWords, termWords, condWords}
+use Rattle.syntax.specs.Emission.{Sym, _⧺_, cellWords, unariesWords, operationsWords, exprEnd, condEnd, exprWords, termWords, condWords}
 use Rattle.syntax.specs.Expressions.{termStart, termFrom, parseBracketed, parseCall, parseUnaries, parseOperations, parseChain, parseCond, parseChoice, parseExpr}
 use Rattle.syntax.specs.Expressions as expressions
 use Rattle.emission.specs.Map.{reference}
@@ -29,11 +29,10 @@ use Rattle.cells.specs.declared.Part.{Part}
 use Rattle.cells.specs.declared.CellStart.{CellStart}
 use Rattle.cells.specs.declared.TermStart.{TermStart}
 use Rattle.cells.specs.Answers.{partOf, treeCellStart, treeTermStart}
-use Rattle.emitter.specs.Emitted.{Emitted, lastAddress, withWord, Bases, emitWord}
-use Rattle.emitter.specs.Lays.{Code, Lays, Holed, filled}
-use Rattle.emitter.proofs.Lays.{append-length, append-assoc, filledIn, nothing, sequence, same, jump-later, before-rest, after-words, same-holed, fill}
+use Rattle.emitter.specs.Emitted.{Emitted, withWord, Bases}
+use Rattle.emitter.specs.Lays.{Code, Lays}
+use Rattle.emitter.proofs.Lays.{append-assoc, filledIn, nothing, sequence, same}
 use Rattle.emitter.proofs.Ends.{expr-end, cond-end}
-use Rattle.emitter.proofs.Words.{jump-word}
 use Rattle.expressions.specs.Chains.{unariesOf, unariesNext, elseExpr}
 use Rattle.expressions.specs.Compiles.{Compiles, Tests, Alternates, Always, AlwaysHoled}
 use Rattle.expressions.proofs.Leaves as leaves

@@ -1,6 +1,6 @@
 -- What a part that was read, or failed, says of the definition's result. Assumes nothing.
 use Prim.Native.Nat.{ℕ}
-use mathlib.Core.Path.{_≡_, refl, sym, ap, ap₂, _∙_}
+use mathlib.Core.Path.{_≡_, sym, ap, ap₂, _∙_}
 use mathlib.Core.List.{List}
 use native.Mathlib.Omega.{arith}
 use Rattle.syntax.specs.Parse.{Got, andThen}
@@ -29,6 +29,11 @@ module _ {A : Type 0} {f : Bases} {words : A → Code} {a b : Emitted} {part : P
   failed-as {k} {at} (Compiles.fails {k = m} {at = o} i p) e =
       let q : Part.Failed m o ≡ Part.Failed k at = sym p ∙ e in let s : m ≡ k = cc in let t : o ≡ at = cc in i ∙ ap₂ (λ x y. failed x y) s t
 
+  -- parsed as another definition's result
+  pub parsed-as : {g′ : Got A} → Compiles f words a b part g → g′ ≡ g → Compiles f words a b part g′
+  parsed-as (Compiles.read i p l) e = Compiles.read (e ∙ i) p l
+  parsed-as (Compiles.fails i p) e = Compiles.fails (e ∙ i) p
+
   -- a failure is passed upward
   pub pass : {B : Type 0} {f′ : Bases} {words′ : B → Code} {a′ b′ : Emitted} {g′ : Got B} (h : A → ℕ → Got B) {k at : ℕ}
       → Compiles f words a b part g → part ≡ Part.Failed k at → g′ ≡ andThen g h → Compiles f′ words′ a′ b′ part g′
@@ -55,3 +60,7 @@ module _ {A : Type 0} {f : Bases} {words : A → ℕ → ℕ → List Sym} {a b 
   failed-test (Tests.read i p l) e = absurd (let z : _≡_ {A = ℕ} 0 1 = cc in omega arith)
   failed-test {k} {at} (Tests.fails {k = m} {at = o} i p) e =
       let q : Part.Failed m o ≡ Part.Failed k at = sym p ∙ e in let s : m ≡ k = cc in let t : o ≡ at = cc in i ∙ ap₂ (λ x y. failed x y) s t
+
+  pub test-as : {g′ : Got A} → Tests f words a b hole part g → g′ ≡ g → Tests f words a b hole part g′
+  test-as (Tests.read i p l) e = Tests.read (e ∙ i) p l
+  test-as (Tests.fails i p) e = Tests.fails (e ∙ i) p

@@ -1,18 +1,17 @@
 -- What the leaf functions of emission emit. Assumes nothing.
 use Prim.Native.Nat.{ℕ, _+_, _<_}
-use mathlib.Core.Path.{_≡_, refl, sym, ap, _∙_}
+use mathlib.Core.Path.{_≡_, refl}
 use mathlib.Core.Bool.{true, false}
-use mathlib.Core.List.{List, [], _∷_}
-use native.Mathlib.Omega.{arith}
+use mathlib.Core.List.{[], _∷_}
 use lib.ListN.{length, getD}
 use Rattle.instruction.specs.Code.{JMP, JST}
 use Rattle.instruction.specs.Table.{tableOf}
 use Rattle.instruction.specs.Encode.{shiftWord}
 use Rattle.syntax.specs.Emission.{Sym, _⧺_, callWord}
 use Rattle.emission.specs.Map.{reference}
-use Rattle.emitter.specs.Emitted.{Emitted, lastAddress, withWord, Bases, emitWord, emitAll}
+use Rattle.emitter.specs.Emitted.{Emitted, lastAddress, withWord, Bases, emitWord}
 use Rattle.emitter.specs.Lays.{Code, Lays, Holed}
-use Rattle.emitter.proofs.Lays.{nothing, word, sequence, words, jump-later, same-holed}
+use Rattle.emitter.proofs.Lays.{nothing, word, jump-later, same-holed}
 use Rattle.emitter.proofs.Words.{generic-word, shift-word, through-word, jump-word}
 
 module _ (f : Bases) {a b : Emitted} where

@@ -6,13 +6,13 @@ use mathlib.Core.List.{List, [], _∷_}
 use mathlib.Core.Option.{Option, none, some}
 use native.Mathlib.Omega.{arith}
 use borrow.Author.Tests.{eqb-true, eq-eqb, ne-eqb, ltb-true, ltb-false, lt-ltb, le-ltb}
-use lib.Dec.{T, eqb, leb, ltb}
+use lib.Dec.{T, eqb, ltb}
 use Rattle.source.specs.Bytes.{whether, find, given}
 use Rattle.source.specs.Kinds
 use Rattle.source.specs.declared.Token.{Token}
 use Rattle.source.proofs.Tests.{allBelow, below, and-left, and-right}
-use Rattle.syntax.specs.Words.{unaries, operators, shifts, relations, tests, bares, asOneOf}
-use Rattle.syntax.specs.Emission.{operatorCode, shiftKind, testSlot, bareSlot}
+use Rattle.syntax.specs.Words.{unaries, shifts, relations, tests, bares, asOneOf}
+use Rattle.syntax.specs.Emission.{shiftKind, testSlot, bareSlot}
 use Rattle.expressions.specs.Words.{numberIn, lastSlot, ranged}
 
 -- ---- What a number says

@@ -2,22 +2,21 @@
 use Prim.Native.Nat.{ℕ, zero, suc, _-_, _≤_, _<_}
 use mathlib.Core.Path.{_≡_, refl, sym, ap, _∙_}
 use mathlib.Core.Bool.{Bool, true, false}
-use mathlib.Core.List.{List, [], _∷_, _++_}
+use mathlib.Core.List.{List, [], _∷_}
 use mathlib.Core.Option.{Option, none, some}
 use native.Mathlib.Omega.{arith}
 use lib.Dec.{eqb}
-use lib.ListN.{length}
 use Rattle.source.specs.Bytes.{between, find, given}
 use Rattle.source.specs.declared.Token.{Token}
 use Rattle.source.specs.Tokens.{operatorAt}
 use Rattle.syntax.specs.Tree.{Cell, Operator, Shift, Operation}
 use Rattle.syntax.specs.Symbols.{Names}
-use Rattle.syntax.specs.Parse.{Got, andThen, snoc, repeatBy, repeat}
+use Rattle.syntax.specs.Parse.{Got, andThen, snoc, repeatBy}
 use Rattle.syntax.specs.Parse.Got.{got, failed}
-use Rattle.syntax.specs.Words.{operators, shifts, asOneOf}
+use Rattle.syntax.specs.Words.{operators, shifts}
 use Rattle.syntax.specs.Emission.{Sym, _⧺_, cellWords, operatorCode, shiftKind, operationWords, operationsWords}
 use Rattle.syntax.specs.Cells.{parseInRange, parseCell}
-use Rattle.syntax.specs.Expressions.{operationOf, parseOperations}
+use Rattle.syntax.specs.Expressions.{operationOf}
 use Rattle.cells.specs.declared.Part.{Part}
 use Rattle.emitter.specs.Emitted.{Emitted, Bases}
 use Rattle.emitter.specs.Lays.{Lays}

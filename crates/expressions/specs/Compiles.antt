@@ -6,15 +6,15 @@ use mathlib.Core.List.{List}
 use mathlib.Core.Option.{Option, none, some}
 use lib.Dec.{eqb}
 use Rattle.source.specs.Bytes.{find}
-use Rattle.syntax.specs.Tree.{Operation, Relation}
-use Rattle.syntax.specs.Parse.{Got}
+use Rattle.syntax.specs.Tree.{Cell, Operation, Relation}
+use Rattle.syntax.specs.Parse.{Got, andThen}
 use Rattle.syntax.specs.Parse.Got.{got, failed}
 use Rattle.syntax.specs.Words.{relations}
 use Rattle.syntax.specs.Emission.{Sym, operationWords}
 use Rattle.cells.specs.declared.Part.{Part}
 use Rattle.emitter.specs.Emitted.{Emitted, Bases}
 use Rattle.emitter.specs.Lays.{Code, Lays, Holed, filled}
-use Rattle.expressions.specs.Chains.{relationWords}
+use Rattle.expressions.specs.Chains.{Comparison, relationWords, comparisonWords}
 
 -- the part was parsed as t up to n: n is answered, and from a to b the words of t are emitted. Or a failure is answered with its number and offset; nothing is said of b then
 pub data Compiles {A : Type 0} (f : Bases) (words : A → Code) (a b : Emitted) (part : Part) (g : Got A) : Type 0 where
@@ -47,3 +47,7 @@ pub record AlwaysHoled (a b : Emitted) (w : ℕ → ℕ → List Sym) (hole : �
 -- the words after a relation's CAS, by the relation's token
 pub record Related (kind : ℕ) (a b : Emitted) (hole : ℕ) : Type 0 where
   pub holed : {row : ℕ × Relation} (f : Bases) → find (eqb kind) relations ≡ some row → Holed f a b (relationWords (row .1)) hole
+
+-- a relation's cell and its words, by the relation's token
+pub record Compares (f : Bases) (kind : ℕ) (a b : Emitted) (hole : ℕ) (part : Part) (g : Got Cell) : Type 0 where
+  pub tests : {row : ℕ × Relation} → find (eqb kind) relations ≡ some row → Tests f comparisonWords a b hole part (andThen g (λ cell next. got (Comparison.relation (row .1) cell) next))

@@ -1,8 +1,8 @@
 // Expressions and conditions: parsed and emitted in one go. Past the end of the image nothing is stored, so a first pass runs on an empty one.
-use cells::CellStart;
 use cells::Part;
 use cells::TermStart;
 use cells::amount_at;
+use cells::cell::CellAnswer;
 use cells::cell::cell_at;
 use cells::cell::cell_from;
 use cells::cell::lone_cell_at;
@@ -27,16 +27,16 @@ use source::token_at;
 ghost use mathlib.Core.List.{[], _∷_};
 ghost use Rattle.source.specs.Bytes.{between};
 ghost use Rattle.source.specs.Tokens.{tokenAt};
-ghost use Rattle.instruction.specs.Code.{LDA};
 ghost use Rattle.syntax.specs.Tree.{Term};
 ghost use Rattle.syntax.specs.Emission.{Sym, cellWords, exprWords, termWords, condWords, operationsWords};
-ghost use Rattle.syntax.specs.Cells.{parseInRange, cellFrom, parseCell};
+ghost use Rattle.syntax.specs.Cells.{parseInRange, parseLoneCell};
 ghost use Rattle.syntax.specs.Expressions.{termFrom, parseBracketed, parseCall, parseOperations, parseChain, parseCond, parseChoice, parseExpr};
 ghost use Rattle.symbols.specs.Table.{heldBy};
-ghost use Rattle.cells.specs.Answers.{treeCellStart, treeTermStart};
+ghost use Rattle.operands.specs.Trees.{treeCell};
+ghost use Rattle.cells.specs.Answers.{gotWith, treeTermStart};
 ghost use Rattle.emitter.specs.Emitted.{emittedBy, basesOf};
 ghost use Rattle.expressions.specs.Chains.{operationAt, comparisonOf, comparisonWords, elseExpr};
-ghost use Rattle.expressions.specs.Compiles.{Compiles, Tests, Alternates, Turned};
+ghost use Rattle.expressions.specs.Compiles.{Compiles, Tests, Compares, Alternates, Turned};
 
 pub mod relation;
 mod unaries;
@@ -68,29 +68,23 @@ struct Turn {
     output: Output,
 }
 
-// An operator's cell, after the operator.
-fn binary(
-    source: &[u8],
-    table: &[u16],
+// A cell that was read, under an order.
+fn emit_read(
     image: &mut [u16],
     context: Context,
-    code: u16,
-    at: usize,
+    order: u16,
+    read: CellAnswer,
     output: Output,
 ) -> Answer
-    ensures { λ r. ⌜ Compiles (basesOf context) (λ c _. cellWords code c) (emittedBy output (now (image .entry))) (emittedBy (r .output) (now (image .exit))) (r .part) (parseCell (now (source .entry)) (heldBy (context .names) (now (table .entry))) at) ⌝ }
+    ensures { λ r. ⌜ Compiles (basesOf context) (λ c _. cellWords order c) (emittedBy output (now (image .entry))) (emittedBy (r .output) (now (image .exit))) (r .part) (gotWith (read .part) (treeCell (read .cell))) ⌝ }
 {
-    let operand = cell_at(source, table, context.names, at);
-    let part = operand.part;
-    let Part::Read { next } = part else {
+    let part = read.part;
+    let Part::Read { next: _ } = part else {
         return Answer { part, output };
     };
-    let cell = operand.cell;
-    let more = emit_cell(image, context, output, code, cell);
-    Answer {
-        part: Part::Read { next },
-        output: more,
-    }
+    let cell = read.cell;
+    let more = emit_cell(image, context, output, order, cell);
+    Answer { part, output: more }
 }
 
 // A shift's amount, after the shift word.
@@ -130,7 +124,8 @@ fn operation(
 {
     let operator = words::operator(t.kind);
     if 0 < operator {
-        let one = binary(source, table, image, context, operator - 1, t.next, output);
+        let read = cell_at(source, table, context.names, t.next);
+        let one = emit_read(image, context, operator - 1, read, output);
         let part = one.part;
         let more = one.output;
         return Turn {
@@ -253,31 +248,6 @@ pub fn call(
     }
 }
 
-// A cell as a term, after its first token.
-fn cell_term(
-    source: &[u8],
-    table: &[u16],
-    image: &mut [u16],
-    context: Context,
-    start: CellStart,
-    at: usize,
-    output: Output,
-) -> Answer
-    ensures { λ r. ⌜ Compiles (basesOf context) (λ c _. cellWords LDA c) (emittedBy output (now (image .entry))) (emittedBy (r .output) (now (image .exit))) (r .part) (cellFrom (now (source .entry)) (heldBy (context .names) (now (table .entry))) (treeCellStart start) at) ⌝ }
-{
-    let operand = cell_from(source, table, context.names, start, at);
-    let part = operand.part;
-    let Part::Read { next } = part else {
-        return Answer { part, output };
-    };
-    let cell = operand.cell;
-    let more = emit_cell(image, context, output, code::LDA, cell);
-    Answer {
-        part: Part::Read { next },
-        output: more,
-    }
-}
-
 // A term from after its first token, with the levels left for an expression in it.
 fn term(
     source: &[u8],
@@ -293,7 +263,8 @@ fn term(
 {
     match start {
         TermStart::Cell { start: cell } => {
-            cell_term(source, table, image, context, cell, at, output)
+            let read = cell_from(source, table, context.names, cell, at);
+            emit_read(image, context, code::LDA, read, output)
         }
         TermStart::Accumulator => Answer {
             part: Part::Read { next: at },
@@ -342,6 +313,37 @@ fn chain(
     operations(source, table, image, context, after, more)
 }
 
+// A relation's cell and the relation's words, after the relation.
+fn related(
+    source: &[u8],
+    table: &[u16],
+    image: &mut [u16],
+    context: Context,
+    t: Token,
+    output: Output,
+) -> Tested
+    ensures { λ r. ⌜ Compares (basesOf context) (t .kind) (emittedBy output (now (image .entry))) (emittedBy (r .output) (now (image .exit))) (r .hole) (r .part) (parseLoneCell (now (source .entry)) (heldBy (context .names) (now (table .entry))) (t .next)) ⌝ }
+{
+    let read = lone_cell_at(source, table, context.names, t.next);
+    let compared = emit_read(image, context, code::CAS, read, output);
+    let part = compared.part;
+    let held = compared.output;
+    let Part::Read { next: _ } = part else {
+        return Tested {
+            part,
+            output: held,
+            hole: 0,
+        };
+    };
+    let last = relation::emit_relation(image, held, t.kind);
+    let more = last.output;
+    Tested {
+        part,
+        output: more,
+        hole: last.hole,
+    }
+}
+
 // After a condition's expression: a relation and its cell, or a test.
 fn comparison(
     source: &[u8],
@@ -355,24 +357,7 @@ fn comparison(
 {
     let t = token_at(source, at);
     if 0 < words::relation(t.kind) {
-        let operand = lone_cell_at(source, table, context.names, t.next);
-        let part = operand.part;
-        let Part::Read { next } = part else {
-            return Tested {
-                part,
-                output,
-                hole: 0,
-            };
-        };
-        let cell = operand.cell;
-        let compared = emit_cell(image, context, output, code::CAS, cell);
-        let last = relation::emit_relation(image, compared, t.kind);
-        let more = last.output;
-        return Tested {
-            part: Part::Read { next },
-            output: more,
-            hole: last.hole,
-        };
+        return related(source, table, image, context, t, output);
     }
     let test = words::test(t.kind);
     if 0 < test {

@@ -22,7 +22,7 @@ pub fn emit_hole(image: &mut [u16], output: Output) -> Jumping
 }
 
 // A single test, by its slot.
-pub fn emit_test(image: &mut [u16], output: Output, slot: usize) -> Jumping
+pub(crate) fn emit_test(image: &mut [u16], output: Output, slot: usize) -> Jumping
     ensures { λ r. ⌜ AlwaysHoled (emittedBy output (now (image .entry))) (emittedBy (r .output) (now (image .exit))) (λ at z. Sym.generic slot ∷ Sym.jump z ∷ []) (r .hole) ⌝ }
 {
     let more = emit_generic(image, output, slot);
@@ -56,7 +56,7 @@ fn emit_at_most(image: &mut [u16], output: Output) -> Jumping
 }
 
 // The words of a relation after its CAS, by its token's kind.
-pub fn emit_relation(image: &mut [u16], output: Output, kind: u16) -> Jumping
+pub(crate) fn emit_relation(image: &mut [u16], output: Output, kind: u16) -> Jumping
     ensures { λ r. ⌜ Related kind (emittedBy output (now (image .entry))) (emittedBy (r .output) (now (image .exit))) (r .hole) ⌝ }
 {
     if kind == kind::GREATER {

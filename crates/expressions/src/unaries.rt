@@ -1,5 +1,6 @@
 // Unary words. They stand before the term and their instructions after it, the last word's first, so they are read twice: to go past them, and to emit them from the end.
 use crate::words::unary;
+use emitter::LAST_ADDRESS;
 use emitter::Output;
 use emitter::generic_word;
 use emitter::store;
@@ -15,9 +16,6 @@ ghost use Rattle.emitter.specs.Emitted.{emittedBy, lastAddress};
 ghost use Rattle.expressions.specs.Chains.{unariesOf, unariesNext};
 ghost use Rattle.expressions.specs.Compiles.{Always};
 ghost use Rattle.expressions.specs.Unaries.{values, widthOf, unaryValues};
-
-// The last address that 16 bits hold.
-const LAST_ADDRESS: u16 = 65535;
 
 // The offset after them. The turns are counted, as in the definition: each word takes a byte or more.
 pub fn unaries_next(source: &[u8], at: usize) -> usize

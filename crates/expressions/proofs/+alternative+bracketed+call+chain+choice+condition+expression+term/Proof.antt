@@ -1,6 +1,6 @@
 -- The proof of the cycle of calls of expressions and conditions. An expression with `left` levels calls its forms with one less, and they call expressions with the same.
 -- Assumes nothing.
-use mathlib.Core.Path.{_≡_, refl, sym, ap, _∙_}
+use mathlib.Core.Path.{refl, sym, ap, _∙_}
 use native.Mathlib.Omega.{arith}
 use borrow.Author.Needs.{needs}
 use Rattle.syntax.specs.Expressions.{parseBracketed}
@@ -8,7 +8,7 @@ use Rattle.emitter.specs.Emitted.{emittedBy}
 use Rattle.expressions.specs.Chains.{elseExpr}
 use Rattle.expressions.specs.Compiles.{Alternates}
 use Rattle.cells.proofs.Laws.{then-got, then-failed, part-read, part-failed, got-read, got-failed}
-use Rattle.expressions.proofs.Laws.{came, failed-as, pass}
+use Rattle.expressions.proofs.Laws.{came, failed-as, parsed-as, pass}
 use Rattle.expressions.proofs.Comparisons.{none-left, bare-read, value-failed, value-compared}
 use Rattle.expressions.proofs.Forms.{bracketed-closed, called-alone, call-failed, called-with, begins-cell, begins-zero, begins-bracket, begins-call, begins-accumulator, unaries-upto, start-failed, term-failed, chained, test-failed, then-missing, first-failed, chosen, from-state, deep-part, is-choice, is-chain}
 use Prim.Native.Nat.{_*_, _+_}
@@ -45,7 +45,8 @@ use Rattle.cells.proofs.openings.too_deep_at.Reads as too-deep-at-reads
 use Rattle.emitter.proofs.emit_generic.Reads as emit-generic-reads
 use Rattle.emitter.proofs.emit_through.Reads as emit-through-reads
 use Rattle.emitter.proofs.fill_jump.Reads as fill-jump-reads
-use Rattle.expressions.proofs.cell_term.Reads as cell-term-reads
+use Rattle.cells.proofs.cell.cell_from.Reads as cell-from-reads
+use Rattle.expressions.proofs.emit_read.Reads as emit-read-reads
 use Rattle.expressions.proofs.comparison.Reads as comparison-reads
 use Rattle.expressions.proofs.operations.Reads as operations-reads
 use Rattle.expressions.proofs.relation.emit_hole.Reads as emit-hole-reads
@@ -162,7 +163,7 @@ abbrev expression-calls : ℕ → expression-lts.Claims
 expression-calls t = (too-deep-at-reads.Asked, too-deep-at-reads.Learnt, token-at-reads.Asked, token-at-reads.Learnt, choice-below t, choice.Post, chain-below t, chain.Post)
 
 abbrev term-calls : ℕ → term-lts.Claims
-term-calls t = (cell-term-reads.Asked, cell-term-reads.Learnt, emit-generic-reads.Asked, emit-generic-reads.Learnt, bracketed-below t, bracketed.Post, call-below t, call.Post)
+term-calls t = (cell-from-reads.Asked, cell-from-reads.Learnt, emit-read-reads.Asked, emit-read-reads.Learnt, emit-generic-reads.Asked, emit-generic-reads.Learnt, bracketed-below t, bracketed.Post, call-below t, call.Post)
 
 alternative-expect-requires : (t : ℕ) → alternative-lts.Need-expect-requires (alternative-calls t) (alternative-at t) alternative.Post
 alternative-expect-requires t c κs = search needs
@@ -451,8 +452,11 @@ expression-returns-3 t c = rw (is-chain _ _ _ _ (c .before .before .before .befo
 term-enum-known-start : (t : ℕ) → term-lts.Need-enum-known-start (term-calls t) (term-at t) term.Post
 term-enum-known-start t c = search needs
 
-term-cell-term-requires : (t : ℕ) → term-lts.Need-cell-term-requires (term-calls t) (term-at t) term.Post
-term-cell-term-requires t c κs = search needs
+term-cell-from-requires : (t : ℕ) → term-lts.Need-cell-from-requires (term-calls t) (term-at t) term.Post
+term-cell-from-requires t c κs = search needs
+
+term-emit-read-requires : (t : ℕ) → term-lts.Need-emit-read-requires (term-calls t) (term-at t) term.Post
+term-emit-read-requires t c κs = search needs
 
 term-enum-told : (t : ℕ) → term-lts.Need-enum-told (term-calls t) (term-at t) term.Post
 term-enum-told t c = search needs
@@ -479,7 +483,7 @@ term-same-length : (t : ℕ) → term-lts.Need-same-length (term-calls t) (term-
 term-same-length t c = search needs
 
 term-returns : (t : ℕ) → term-lts.Need-returns (term-calls t) (term-at t) term.Post
-term-returns t c = begins-cell _ _ _ _ (c .before .before .before .before .before .start .given .1) (c .before .before .cell-term .ensures)
+term-returns t c = begins-cell _ _ _ _ (c .before .before .before .before .before .before .start .given .1) (parsed-as (c .before .before .emit-read .ensures) (sym (c .before .before .before .before .cell-from .ensures)))
 
 term-returns-2 : (t : ℕ) → term-lts.Need-returns-2 (term-calls t) (term-at t) term.Post
 term-returns-2 t c = begins-accumulator _ _ _ _ (c .enum-told .given .1)
@@ -631,7 +635,8 @@ pub +alternative+bracketed+call+chain+choice+condition+expression+term-spec :
     (term-at t)
     term.Post
     (term-enum-known-start t)
-    (term-cell-term-requires t)
+    (term-cell-from-requires t)
+    (term-emit-read-requires t)
     (term-enum-told t)
     (term-enum-told-2 t)
     (term-emit-generic-requires t)

@@ -1,7 +1,6 @@
 -- `comparison` meets its contract. Assumes nothing.
 use mathlib.Core.Path.{_∙_}
-use Rattle.cells.proofs.Laws.{got-read, got-failed}
-use Rattle.expressions.proofs.Comparisons.{none-left, relation-failed, relation-read, test-read, no-comparison}
+use Rattle.expressions.proofs.Comparisons.{none-left, relation-compared, test-read, no-comparison}
 use borrow.Author.Needs.{needs}
 use Rattle.expressions.proofs.comparison.Statement.{statement}
 use Rattle.expressions.proofs.comparison.Tie as tie
@@ -12,29 +11,14 @@ token-at-requires c κs = search needs
 relation-requires : tie.Need-relation-requires
 relation-requires c κs = search needs
 
-lone-cell-at-requires : tie.Need-lone-cell-at-requires
-lone-cell-at-requires c κs = search needs
-
-enum-known-part : tie.Need-enum-known-part
-enum-known-part c = search needs
-
-enum-told : tie.Need-enum-told
-enum-told c = search needs
-
-returns : tie.Need-returns
-returns c = rw (c .enum-told .given .1) (relation-failed _ _ _ _ (c .before .before .before .before .before .token-at .ensures) _ (c .before .before .before .before .relation .ensures) (c .before .before .before .if1 .taken) (got-failed _ (c .before .before .lone-cell-at .ensures) (c .enum-told .given .1)))
-
-emit-cell-requires : tie.Need-emit-cell-requires
-emit-cell-requires c κs = search needs
-
-emit-relation-requires : tie.Need-emit-relation-requires
-emit-relation-requires c κs = search needs
+related-requires : tie.Need-related-requires
+related-requires c κs = search needs
 
 same-length : tie.Need-same-length
 same-length c = search needs
 
-returns-2 : tie.Need-returns-2
-returns-2 c = relation-read _ _ _ _ (c .before .before .before .before .before .before .before .before .before .before .before .before .before .before .before .token-at .ensures) _ (c .before .before .before .before .before .before .before .before .before .before .before .before .before .before .relation .ensures) (c .before .before .before .before .before .before .before .before .before .before .before .before .before .if1 .taken) (got-read (c .before .before .before .before .before .before .before .before .before .before .before .before .lone-cell-at .ensures) (c .before .before .before .before .before .before .before .before .before .before .part .given .1)) (c .before .before .before .before .before .before .before .emit-cell .ensures) (c .before .before .before .emit-relation .ensures)
+returns : tie.Need-returns
+returns c = relation-compared _ _ _ _ (c .before .before .before .before .before .before .token-at .ensures) _ (c .before .before .before .before .before .relation .ensures) (c .before .before .before .before .if1 .taken) (c .before .before .related .ensures)
 
 test-requires : tie.Need-test-requires
 test-requires c κs = search needs
@@ -51,14 +35,14 @@ emit-test-requires c κs = search needs
 same-length-2 : tie.Need-same-length-2
 same-length-2 c = search needs
 
-returns-3 : tie.Need-returns-3
-returns-3 c = test-read _ _ _ _ (c .before .before .before .before .before .before .before .before .before .token-at .ensures) _ (none-left _ (c .before .before .before .before .before .before .before .if1 .left) ∙ c .before .before .before .before .before .before .before .before .relation .ensures) (c .before .before .before .before .before .before .test .ensures) (c .before .before .before .before .before .if2 .taken) (c .before .before .before .emit-test .ensures)
+returns-2 : tie.Need-returns-2
+returns-2 c = test-read _ _ _ _ (c .before .before .before .before .before .before .before .before .before .token-at .ensures) _ (none-left _ (c .before .before .before .before .before .before .before .if1 .left) ∙ c .before .before .before .before .before .before .before .before .relation .ensures) (c .before .before .before .before .before .before .test .ensures) (c .before .before .before .before .before .if2 .taken) (c .before .before .before .emit-test .ensures)
 
 fail-at-requires : tie.Need-fail-at-requires
 fail-at-requires c κs = search needs
 
-returns-4 : tie.Need-returns-4
-returns-4 c = rw (c .fail-at .ensures) (no-comparison _ _ _ _ (c .before .before .before .before .before .token-at .ensures) (none-left _ (c .before .before .before .if1 .left) ∙ c .before .before .before .before .relation .ensures) (none-left _ (c .before .if2 .left) ∙ c .before .before .test .ensures))
+returns-3 : tie.Need-returns-3
+returns-3 c = rw (c .fail-at .ensures) (no-comparison _ _ _ _ (c .before .before .before .before .before .token-at .ensures) (none-left _ (c .before .before .before .if1 .left) ∙ c .before .before .before .before .relation .ensures) (none-left _ (c .before .if2 .left) ∙ c .before .before .test .ensures))
 
 pub comparison-spec : {M : Type 1} → statement M
 comparison-spec =
@@ -66,19 +50,14 @@ comparison-spec =
     (tie.spec
     token-at-requires
     relation-requires
-    lone-cell-at-requires
-    enum-known-part
-    enum-told
-    returns
-    emit-cell-requires
-    emit-relation-requires
+    related-requires
     same-length
-    returns-2
+    returns
     test-requires
     sub-emit-test
     cast-emit-test
     emit-test-requires
     same-length-2
-    returns-3
+    returns-2
     fail-at-requires
-    returns-4)
+    returns-3)

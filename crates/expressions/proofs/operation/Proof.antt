@@ -1,29 +1,29 @@
 -- `operation` meets its contract. Assumes nothing.
+use mathlib.Core.Path.{sym, _∙_}
+use Rattle.expressions.proofs.Laws.{parsed-as}
+use Rattle.expressions.proofs.Comparisons.{none-left}
 use Rattle.expressions.proofs.Turns.{binary-turn, shift-turn, no-turn}
-use native.Mathlib.Omega.{arith}
-use mathlib.Core.Path.{_≡_, _∙_}
-use Prim.Native.Nat.{ℕ, _≤_}
 use borrow.Author.Needs.{needs}
 use Rattle.expressions.proofs.operation.Statement.{statement}
 use Rattle.expressions.proofs.operation.Tie as tie
 
-none-left : (n : ℕ) → n ≤ 0 → 0 ≡ n
-none-left n h = omega (arith, h)
-
 operator-requires : tie.Need-operator-requires
 operator-requires c κs = search needs
 
-sub-binary : tie.Need-sub-binary
-sub-binary c = search needs
+cell-at-requires : tie.Need-cell-at-requires
+cell-at-requires c κs = search needs
 
-binary-requires : tie.Need-binary-requires
-binary-requires c κs = search needs
+sub-emit-read : tie.Need-sub-emit-read
+sub-emit-read c = search needs
+
+emit-read-requires : tie.Need-emit-read-requires
+emit-read-requires c κs = search needs
 
 same-length : tie.Need-same-length
 same-length c = search needs
 
 returns : tie.Need-returns
-returns c = binary-turn _ _ _ _ (c .before .before .before .before .before .before .operator .ensures) (c .before .before .before .before .before .if1 .taken) (c .before .before .before .binary .ensures)
+returns c = binary-turn _ _ _ _ (c .before .before .before .before .before .before .before .operator .ensures) (c .before .before .before .before .before .before .if1 .taken) (parsed-as (c .before .before .before .emit-read .ensures) (sym (c .before .before .before .before .before .cell-at .ensures)))
 
 shift-word-requires : tie.Need-shift-word-requires
 shift-word-requires c κs = search needs
@@ -48,8 +48,9 @@ operation-spec =
     tie.close
     (tie.spec
     operator-requires
-    sub-binary
-    binary-requires
+    cell-at-requires
+    sub-emit-read
+    emit-read-requires
     same-length
     returns
     shift-word-requires

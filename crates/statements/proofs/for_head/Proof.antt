@@ -2,7 +2,7 @@
 use mathlib.Core.Path.{refl}
 use Rattle.syntax.specs.Tree.{Id}
 use Rattle.operands.specs.Trees.{treeId, treeOperand, treeCell}
-use Rattle.statements.specs.Forms.{Head, counterOf, storedWords, headWords}
+use Rattle.statements.specs.Forms.{Head, counterOf, headWords}
 use Rattle.statements.proofs.Loops.{head-hash, head-integer, head-refused, heads, no-head}
 use borrow.Author.Needs.{needs}
 use Rattle.statements.proofs.for_head.Statement.{statement}

@@ -1,0 +1,30 @@
+-- `emit_read` meets its contract. Assumes nothing.
+use mathlib.Core.Path.{refl}
+use Rattle.emitter.proofs.Lays.{words}
+use Rattle.expressions.specs.Compiles.{Compiles}
+use Rattle.cells.proofs.Laws.{got-read, got-failed}
+use borrow.Author.Needs.{needs}
+use Rattle.expressions.proofs.emit_read.Statement.{statement}
+use Rattle.expressions.proofs.emit_read.Tie as tie
+
+enum-told : tie.Need-enum-told
+enum-told c = search needs
+
+enum-told-2 : tie.Need-enum-told-2
+enum-told-2 c = search needs
+
+returns : tie.Need-returns
+returns c = Compiles.fails (got-failed _ refl (c .enum-told2 .given .1)) (c .enum-told2 .given .1)
+
+emit-cell-requires : tie.Need-emit-cell-requires
+emit-cell-requires c κs = search needs
+
+same-length : tie.Need-same-length
+same-length c = search needs
+
+returns-2 : tie.Need-returns-2
+returns-2 c = Compiles.read (got-read refl (c .before .before .before .before .enum-told .given .1)) (c .before .before .before .before .enum-told .given .1) (rw (c .before .before .emit-cell .ensures) (words _))
+
+pub emit-read-spec : {M : Type 1} → statement M
+emit-read-spec =
+    tie.close (tie.spec enum-told enum-told-2 returns emit-cell-requires same-length returns-2)
