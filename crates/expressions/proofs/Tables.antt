@@ -49,7 +49,7 @@ keysBelow : {A : Type 0} → ℕ → List (ℕ × A) → Bool
 keysBelow n [] = true
 keysBelow n (r ∷ rs) = ltb (r .0) n && keysBelow n rs
 
-holds : (b : Bool) → T b → b ≡ true
+pub holds : (b : Bool) → T b → b ≡ true
 holds true t = refl
 holds false t = absurd t
 

@@ -1,11 +1,12 @@
 -- The words that stand for an instruction, as the code looks them up. Assumes nothing.
-use Prim.Native.Nat.{ℕ, suc, _+_, _-_, _%_}
+use Prim.Native.Nat.{ℕ, suc, _+_, _-_}
 use mathlib.Core.List.{List, [], _∷_}
 use lib.Dec.{eqb, ltb}
 use lib.ListN.{getD}
 use Rattle.source.specs.Bytes.{whether, find, given}
 use Rattle.source.specs.Kinds
-use Rattle.instruction.specs.Slot.{TCA, SSP, SSM, CHS, CSA, CMA, ICL, CAL, ICA, ICR, CAR, AOA, ACA}
+use Rattle.word.specs.Shift.{LGR, ARS, ARR, LGL, ALS, ALR}
+use Rattle.instruction.specs.Slot.{SZE, SNZ, SPL, SMI, SLN, SLZ, SSC, SRC, SS1, SS2, SS3, SS4, SSS, SSR, TCA, SSP, SSM, CHS, CSA, CMA, ICL, CAL, ICA, ICR, CAR, AOA, ACA}
 use Rattle.syntax.specs.Tree.{Unary}
 
 -- 1 more than the number of a kind's row, or 0 where there is none
@@ -29,10 +30,14 @@ lastSlot Unary.icright = ICR
 lastSlot Unary.cright = CAR
 lastSlot Unary.abs = TCA
 
--- the code's table
+-- the code's table, from `.ZERO` on
 abbrev pub wordTable : List ℕ
 wordTable =
-    56 ∷ 0 ∷ 0 ∷ 34 ∷ 44 ∷ 7 ∷ 1 ∷ 9 ∷ 23 ∷ 18 ∷ 30 ∷ 42 ∷ 46 ∷ 14 ∷ 28 ∷ 19 ∷ 7 ∷ 260 ∷ 261 ∷ 262 ∷ 268 ∷ 269 ∷ 270 ∷ 8 ∷ 39 ∷ 55 ∷ 33 ∷ 17 ∷ 54 ∷ 38 ∷ 27 ∷ 37 ∷ 10 ∷ 61 ∷ 58 ∷ 43 ∷ []
+    SZE ∷ 0 ∷ 0
+    ∷ ACA ∷ AOA ∷ TCA ∷ SSP ∷ SSM ∷ CHS ∷ CSA ∷ CMA ∷ ICL ∷ CAL ∷ ICA ∷ ICR ∷ CAR ∷ TCA
+    ∷ LGR ∷ ARS ∷ ARR ∷ LGL ∷ ALS ∷ ALR
+    ∷ SNZ ∷ SPL ∷ SMI ∷ SLN ∷ SLZ
+    ∷ SSC ∷ SRC ∷ SS1 ∷ SS2 ∷ SS3 ∷ SS4 ∷ SSS ∷ SSR ∷ []
 
 -- its rows between two kinds
 unfoldable pub ranged : ℕ → ℕ → ℕ → ℕ
@@ -41,4 +46,4 @@ ranged low high kind =
     whether (ltb high kind) (λ _. 0) λ _.
     whether (ltb kind Kinds.ZERO) (λ _. 0) λ _.
     whether (ltb Kinds.NOKEY kind) (λ _. 0) λ _.
-    1 + getD wordTable (kind - Kinds.ZERO) 0 % 512
+    1 + getD wordTable (kind - Kinds.ZERO) 0

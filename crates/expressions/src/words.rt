@@ -1,49 +1,51 @@
 // The words that stand for an instruction: unary words, shift words and tests.
 use instruction::code;
+use instruction::slot;
 use source::kind;
+use word::shift;
 ghost use mathlib.Core.Path.{_≡_};
 ghost use Rattle.syntax.specs.Words.{unaries, operators, shifts, relations, tests, bares};
 ghost use Rattle.syntax.specs.Emission.{operatorCode, shiftKind, testSlot, bareSlot};
 ghost use Rattle.expressions.specs.Words.{lastSlot, numberIn, ranged as rangedDef};
 
-// From `.ZERO` to `.NOKEY`, in the order of the kinds: the slot of a generic instruction, or a shift's kind; `.ABS` ends in TCA.
+// From `.ZERO` to `.NOKEY`, in the order of the kinds: the slot of a word's generic instruction, a shift word's kind, or 0 for an operator.
 const WORDS: [u16; 36] = [
-    56,
-    0,
-    0,
-    34,
-    44,
-    7,
-    1,
-    9,
-    23,
-    18,
-    30,
-    42,
-    46,
-    14,
-    28,
-    19,
-    7,
-    260,
-    261,
-    262,
-    268,
-    269,
-    270,
-    8,
-    39,
-    55,
-    33,
-    17,
-    54,
-    38,
-    27,
-    37,
-    10,
-    61,
-    58,
-    43,
+    slot::SZE as u16, // .ZERO
+    0, // .AND
+    0, // .NEV
+    slot::ACA as u16, // .ADDC
+    slot::AOA as u16, // .INC
+    slot::TCA as u16, // .NEG
+    slot::SSP as u16, // .SSP
+    slot::SSM as u16, // .SSM
+    slot::CHS as u16, // .CHS
+    slot::CSA as u16, // .CSA
+    slot::CMA as u16, // .NOT
+    slot::ICL as u16, // .ICLEFT
+    slot::CAL as u16, // .CLEFT
+    slot::ICA as u16, // .SWOP
+    slot::ICR as u16, // .ICRIGHT
+    slot::CAR as u16, // .CRIGHT
+    slot::TCA as u16, // .ABS
+    shift::LGR, // .LGR
+    shift::ARS, // .ARS
+    shift::ARR, // .ARR
+    shift::LGL, // .LGL
+    shift::ALS, // .ALS
+    shift::ALR, // .ALR
+    slot::SNZ as u16, // .NONZERO
+    slot::SPL as u16, // .PLUS
+    slot::SMI as u16, // .MINUS
+    slot::SLN as u16, // .ODD
+    slot::SLZ as u16, // .EVEN
+    slot::SSC as u16, // .CSET
+    slot::SRC as u16, // .NOTC
+    slot::SS1 as u16, // .SENSE1
+    slot::SS2 as u16, // .SENSE2
+    slot::SS3 as u16, // .SENSE3
+    slot::SS4 as u16, // .SENSE4
+    slot::SSS as u16, // .ANYKEY
+    slot::SSR as u16, // .NOKEY
 ];
 
 // 1 more than the number of a kind between two, or 0.
@@ -63,7 +65,7 @@ fn ranged(low: u16, high: u16, kind: u16) -> u16
         return 0;
     }
     let i = (kind - kind::ZERO) as usize;
-    1 + WORDS[i] % 512
+    1 + WORDS[i]
 }
 
 // 1 more than the slot of a unary word's last instruction, or 0.

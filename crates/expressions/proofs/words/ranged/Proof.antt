@@ -1,9 +1,20 @@
 -- `words::ranged` meets its contract. Assumes nothing.
-use borrow.Author.Tests.{lt-ltb, le-ltb}
-use Rattle.expressions.specs.Words.{ranged as rangedDef}
-use borrow.Author.Needs.{needs}
+use Prim.Native.Nat.{ℕ, _+_, _-_, _<_}
+use native.Mathlib.Omega.{arith}
+use lib.ListN.{getD}
+use lib.Dec.{ltb}
+use borrow.Author.Tests.{ltb-true, lt-ltb, le-ltb}
+use Rattle.source.specs.Kinds
+use Rattle.source.proofs.Tests.{below}
+use Rattle.expressions.specs.Words.{wordTable, ranged as rangedDef}
+use Rattle.expressions.proofs.Tables.{holds}
+use borrow.Author.Needs.{needs, fits-under}
 use Rattle.expressions.proofs.words.ranged.Statement.{statement}
 use Rattle.expressions.proofs.words.ranged.Tie as tie
+
+-- no number of the table is large
+word-below : (i : ℕ) → i < 36 → 1 + getD wordTable i 0 < 512
+word-below i h = ltb-true _ _ (holds _ (below (λ i. ltb (1 + getD wordTable i 0) 512) 36 tt i h))
 
 returns : tie.Need-returns
 unfolding rangedDef
@@ -31,7 +42,7 @@ array-read-result : tie.Need-array-read-result
 array-read-result c = search needs
 
 add-result : tie.Need-add-result
-add-result c = search needs
+add-result c = let h = c .if4 .left in fits-under _ _ 512 (word-below (c .before .before .before .before .args .kind - Kinds.ZERO) (omega (arith, h))) tt
 
 returns-5 : tie.Need-returns-5
 unfolding rangedDef
