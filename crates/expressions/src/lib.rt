@@ -1,43 +1,35 @@
 // Expressions and conditions: parsed and emitted in one go. Past the end of the image nothing is stored, so a first pass runs on an empty one.
+use crate::comparing::comparison;
+use crate::operators::operations;
 use cells::Part;
 use cells::TermStart;
-use cells::amount_at;
 use cells::cell::CellAnswer;
-use cells::cell::cell_at;
 use cells::cell::cell_from;
-use cells::cell::lone_cell_at;
 use cells::expect;
-use cells::fail_at;
-use cells::failures;
 use cells::openings::term_start_at;
 use cells::openings::too_deep_at;
 use emitter::Context;
 use emitter::Output;
 use emitter::emit_cell;
 use emitter::emit_generic;
-use emitter::emit_shift;
 use emitter::emit_through;
 use emitter::fill_jump;
 use instruction::code;
 use instruction::slot;
-use source::Token;
 use source::kind;
-use source::operator_at;
 use source::token_at;
-ghost use mathlib.Core.List.{[], _∷_};
-ghost use Rattle.source.specs.Bytes.{between};
-ghost use Rattle.source.specs.Tokens.{tokenAt};
 ghost use Rattle.syntax.specs.Tree.{Term};
-ghost use Rattle.syntax.specs.Emission.{Sym, cellWords, exprWords, termWords, condWords, operationsWords};
-ghost use Rattle.syntax.specs.Cells.{parseInRange, parseLoneCell};
-ghost use Rattle.syntax.specs.Expressions.{termFrom, parseBracketed, parseCall, parseOperations, parseChain, parseCond, parseChoice, parseExpr};
+ghost use Rattle.syntax.specs.Emission.{cellWords, exprWords, termWords, condWords};
+ghost use Rattle.syntax.specs.Expressions.{termFrom, parseBracketed, parseCall, parseChain, parseCond, parseChoice, parseExpr};
 ghost use Rattle.symbols.specs.Table.{heldBy};
 ghost use Rattle.operands.specs.Trees.{treeCell};
 ghost use Rattle.cells.specs.Answers.{gotWith, treeTermStart};
 ghost use Rattle.emitter.specs.Emitted.{emittedBy, basesOf};
-ghost use Rattle.expressions.specs.Chains.{operationAt, comparisonOf, comparisonWords, elseExpr};
-ghost use Rattle.expressions.specs.Compiles.{Compiles, Tests, Compares, Alternates, Turned};
+ghost use Rattle.expressions.specs.Chains.{elseExpr};
+ghost use Rattle.expressions.specs.Compiles.{Compiles, Tests, Alternates};
 
+mod comparing;
+mod operators;
 pub mod relation;
 mod unaries;
 mod words;
@@ -61,13 +53,6 @@ pub struct Jumping {
     pub hole: u16,
 }
 
-// An operation's answer, if there is one.
-struct Turn {
-    more: bool,
-    part: Part,
-    output: Output,
-}
-
 // A cell that was read, under an order.
 fn emit_read(
     image: &mut [u16],
@@ -85,108 +70,6 @@ fn emit_read(
     let cell = read.cell;
     let more = emit_cell(image, context, output, order, cell);
     Answer { part, output: more }
-}
-
-// A shift's amount, after the shift word.
-fn shifted(
-    source: &[u8],
-    table: &[u16],
-    image: &mut [u16],
-    context: Context,
-    kind: u16,
-    at: usize,
-    output: Output,
-) -> Answer
-    ensures { λ r. ⌜ Compiles (basesOf context) (λ n _. Sym.shift kind n ∷ []) (emittedBy output (now (image .entry))) (emittedBy (r .output) (now (image .exit))) (r .part) (parseInRange (now (source .entry)) (heldBy (context .names) (now (table .entry))) (between 1 15) at) ⌝ }
-{
-    let amount = amount_at(source, table, context.names, at);
-    let part = amount.part;
-    let Part::Read { next } = part else {
-        return Answer { part, output };
-    };
-    let more = emit_shift(image, output, kind, amount.value);
-    Answer {
-        part: Part::Read { next },
-        output: more,
-    }
-}
-
-// The operation that a token begins, if it begins one.
-fn operation(
-    source: &[u8],
-    table: &[u16],
-    image: &mut [u16],
-    context: Context,
-    t: Token,
-    output: Output,
-) -> Turn
-    ensures { λ r. ⌜ Turned (basesOf context) (emittedBy output (now (image .entry))) (emittedBy (r .output) (now (image .exit))) (r .more) (r .part) (operationAt (now (source .entry)) (heldBy (context .names) (now (table .entry))) t) ⌝ }
-{
-    let operator = words::operator(t.kind);
-    if 0 < operator {
-        let read = cell_at(source, table, context.names, t.next);
-        let one = emit_read(image, context, operator - 1, read, output);
-        let part = one.part;
-        let more = one.output;
-        return Turn {
-            more: true,
-            part,
-            output: more,
-        };
-    }
-    let shift = words::shift_word(t.kind);
-    if 0 < shift {
-        let one = shifted(source, table, image, context, shift - 1, t.next, output);
-        let part = one.part;
-        let more = one.output;
-        return Turn {
-            more: true,
-            part,
-            output: more,
-        };
-    }
-    Turn {
-        more: false,
-        part: Part::Read { next: t.at },
-        output,
-    }
-}
-
-// Any operations. The turns are counted, as in the definition: each part takes a byte or more.
-fn operations(
-    source: &[u8],
-    table: &[u16],
-    image: &mut [u16],
-    context: Context,
-    at: usize,
-    output: Output,
-) -> Answer
-    ensures { λ r. ⌜ Compiles (basesOf context) (λ os _. operationsWords os) (emittedBy output (now (image .entry))) (emittedBy (r .output) (now (image .exit))) (r .part) (parseOperations (now (source .entry)) (heldBy (context .names) (now (table .entry))) at) ⌝ }
-{
-    let mut i = at;
-    let mut held = output;
-    let mut k = source.len();
-    while 0 < k {
-        k -= 1;
-        let t = operator_at(source, i);
-        let turn = operation(source, table, image, context, t, held);
-        held = turn.output;
-        if !turn.more {
-            return Answer {
-                part: Part::Read { next: i },
-                output: held,
-            };
-        }
-        let part = turn.part;
-        let Part::Read { next } = part else {
-            return Answer { part, output: held };
-        };
-        i = next;
-    }
-    Answer {
-        part: Part::Read { next: i },
-        output: held,
-    }
 }
 
 // An expression and `)`, after the `(`.
@@ -311,70 +194,6 @@ fn chain(
     let held = one.output;
     let more = unaries::emit_unaries(source, image, at, held);
     operations(source, table, image, context, after, more)
-}
-
-// A relation's cell and the relation's words, after the relation.
-fn related(
-    source: &[u8],
-    table: &[u16],
-    image: &mut [u16],
-    context: Context,
-    t: Token,
-    output: Output,
-) -> Tested
-    ensures { λ r. ⌜ Compares (basesOf context) (t .kind) (emittedBy output (now (image .entry))) (emittedBy (r .output) (now (image .exit))) (r .hole) (r .part) (parseLoneCell (now (source .entry)) (heldBy (context .names) (now (table .entry))) (t .next)) ⌝ }
-{
-    let read = lone_cell_at(source, table, context.names, t.next);
-    let compared = emit_read(image, context, code::CAS, read, output);
-    let part = compared.part;
-    let held = compared.output;
-    let Part::Read { next: _ } = part else {
-        return Tested {
-            part,
-            output: held,
-            hole: 0,
-        };
-    };
-    let last = relation::emit_relation(image, held, t.kind);
-    let more = last.output;
-    Tested {
-        part,
-        output: more,
-        hole: last.hole,
-    }
-}
-
-// After a condition's expression: a relation and its cell, or a test.
-fn comparison(
-    source: &[u8],
-    table: &[u16],
-    image: &mut [u16],
-    context: Context,
-    at: usize,
-    output: Output,
-) -> Tested
-    ensures { λ r. ⌜ Tests (basesOf context) comparisonWords (emittedBy output (now (image .entry))) (emittedBy (r .output) (now (image .exit))) (r .hole) (r .part) (comparisonOf (now (source .entry)) (heldBy (context .names) (now (table .entry))) (tokenAt (now (source .entry)) at)) ⌝ }
-{
-    let t = token_at(source, at);
-    if 0 < words::relation(t.kind) {
-        return related(source, table, image, context, t, output);
-    }
-    let test = words::test(t.kind);
-    if 0 < test {
-        let last = relation::emit_test(image, output, (test - 1) as usize);
-        let more = last.output;
-        return Tested {
-            part: Part::Read { next: t.next },
-            output: more,
-            hole: last.hole,
-        };
-    }
-    let part = fail_at(t, failures::NOT_ALLOWED);
-    Tested {
-        part,
-        output,
-        hole: 0,
-    }
 }
 
 // A condition.

@@ -1,56 +1,45 @@
 // Statements: parsed and emitted in one go. Where a part fails, nothing is said of what is emitted, so a form may go on to its end with the failure as its part.
-
+use crate::assignment::assigned;
+use crate::assignment::element;
+use crate::assignment::plain;
+use crate::assignment::set_x;
+use crate::assignment::store;
+use crate::counting::for_head;
 use cells::Part;
 use cells::StatementStart as Start;
-use cells::Symbol;
-use cells::cell::lone_cell_at;
-use cells::cell::subscript_at;
 use cells::expect;
 use cells::fail_at;
 use cells::failures;
 use cells::openings::statement_start_at;
-use cells::refuse_at;
-use cells::symbol_at;
 use emitter::Context;
 use emitter::Output;
-use emitter::emit_cell;
 use emitter::emit_jump;
 use emitter::emit_memory;
 use emitter::fill_jump;
 use expressions::Answer;
 use expressions::call;
 use expressions::condition;
-use expressions::expression;
 use expressions::relation::emit_hole;
 use instruction::code;
-use operands::Array;
-use operands::Cell;
-use operands::Id;
 use operands::Operand;
 use source::Token;
 use source::kind;
 use source::token_at;
 ghost use mathlib.Core.Path.{_≡_};
 ghost use Rattle.source.specs.Tokens.{tokenAt};
-ghost use Rattle.syntax.specs.Emission.{exprWords, stmtsWords};
-ghost use Rattle.syntax.specs.Cells.{parseLoneCell};
-ghost use Rattle.syntax.specs.Statements.{endsStatement, parseElement, parseIf, parseWhen, parseWhile, parseFor, parseStmts, parseCompound, stmtFrom, parseOutermost};
+ghost use Rattle.syntax.specs.Emission.{stmtsWords};
+ghost use Rattle.syntax.specs.Statements.{endsStatement, parseIf, parseWhen, parseWhile, parseFor, parseStmts, parseCompound, stmtFrom, parseOutermost};
 ghost use Rattle.symbols.specs.Table.{heldBy};
-ghost use Rattle.operands.specs.Trees.{treeId, treeArray, treeCell};
 ghost use Rattle.cells.specs.Answers.{treeStatementStart};
 ghost use Rattle.emitter.specs.Emitted.{emittedBy, basesOf};
 ghost use Rattle.expressions.specs.Compiles.{Compiles};
-ghost use Rattle.statements.specs.Forms.{followedPart, afterEqual, parseHead, storedWords, loadedWords, Does, Stated, exprAt, stmtAt, Heads};
+ghost use Rattle.statements.specs.Forms.{followedPart, Does, Stated, exprAt, stmtAt};
+
+mod assignment;
+mod counting;
 
 // The levels of nesting: 0 to 32.
 const LEVELS: usize = 33;
-
-// What stands before a `.DO`: how far it was read, what is emitted, and the integer that is counted.
-struct Head {
-    part: Part,
-    output: Output,
-    id: Id,
-}
 
 // A part with the token of a kind after it.
 fn followed_by(source: &[u8], part: Part, kind: u16) -> Part
@@ -60,145 +49,6 @@ fn followed_by(source: &[u8], part: Part, kind: u16) -> Part
         return part;
     };
     expect(source, kind, next)
-}
-
-// `=` expression.
-fn assigned(
-    source: &[u8],
-    table: &[u16],
-    image: &mut [u16],
-    context: Context,
-    at: usize,
-    left: usize,
-    output: Output,
-) -> Answer
-    ensures { λ r. ⌜ Does exprWords context output (now (image .entry)) (now (image .exit)) r (afterEqual (now (source .entry)) (exprAt (now (source .entry)) context (now (table .entry)) left) at) ⌝ }
-{
-    let part = expect(source, kind::EQUAL, at);
-    let Part::Read { next } = part else {
-        return Answer { part, output };
-    };
-    expression(source, table, image, context, next, left, output)
-}
-
-// An integer as a cell.
-fn plain(id: Id) -> Cell
-    ensures { λ r. ⌜ r ≡ Cell.Plain (Operand.Named id) ⌝ }
-{
-    Cell::Plain {
-        operand: Operand::Named { id },
-    }
-}
-
-// `=` expression, stored in a cell.
-fn store(
-    source: &[u8],
-    table: &[u16],
-    image: &mut [u16],
-    context: Context,
-    cell: Cell,
-    at: usize,
-    left: usize,
-    output: Output,
-) -> Answer
-    ensures { λ r. ⌜ Does (storedWords (treeCell cell)) context output (now (image .entry)) (now (image .exit)) r (afterEqual (now (source .entry)) (exprAt (now (source .entry)) context (now (table .entry)) left) at) ⌝ }
-{
-    let value = assigned(source, table, image, context, at, left, output);
-    let part = value.part;
-    let held = value.output;
-    let stored = emit_cell(image, context, held, code::STA, cell);
-    Answer {
-        part,
-        output: stored,
-    }
-}
-
-// An array element's subscript, then `=` expression.
-fn element(
-    source: &[u8],
-    table: &[u16],
-    image: &mut [u16],
-    context: Context,
-    array: Array,
-    at: usize,
-    left: usize,
-    output: Output,
-) -> Answer
-    ensures { λ r. ⌜ Stated context output (now (image .entry)) (now (image .exit)) r (parseElement (now (source .entry)) (heldBy (context .names) (now (table .entry))) (exprAt (now (source .entry)) context (now (table .entry)) left) (treeArray array) at) ⌝ }
-{
-    let found = subscript_at(source, table, context.names, at);
-    let part = found.part;
-    let Part::Read { next } = part else {
-        return Answer { part, output };
-    };
-    let subscript = found.subscript;
-    let cell = Cell::Item { array, subscript };
-    store(source, table, image, context, cell, next, left, output)
-}
-
-// `=` cell, loaded to X.
-fn set_x(
-    source: &[u8],
-    table: &[u16],
-    image: &mut [u16],
-    context: Context,
-    at: usize,
-    output: Output,
-) -> Answer
-    ensures { λ r. ⌜ Does loadedWords context output (now (image .entry)) (now (image .exit)) r (afterEqual (now (source .entry)) (parseLoneCell (now (source .entry)) (heldBy (context .names) (now (table .entry)))) at) ⌝ }
-{
-    let part = expect(source, kind::EQUAL, at);
-    let Part::Read { next } = part else {
-        return Answer { part, output };
-    };
-    let found = lone_cell_at(source, table, context.names, next);
-    let found_part = found.part;
-    let cell = found.cell;
-    let loaded = emit_cell(image, context, output, code::LDX, cell);
-    Answer {
-        part: found_part,
-        output: loaded,
-    }
-}
-
-// What stands between `.FOR` and `.DO`.
-fn for_head(
-    source: &[u8],
-    table: &[u16],
-    image: &mut [u16],
-    context: Context,
-    at: usize,
-    left: usize,
-    output: Output,
-) -> Head
-    ensures { λ r. ⌜ Heads (basesOf context) (emittedBy output (now (image .entry))) (emittedBy (r .output) (now (image .exit))) (r .part) (treeId (r .id)) (parseHead (now (source .entry)) (heldBy (context .names) (now (table .entry))) (exprAt (now (source .entry)) context (now (table .entry)) left) (tokenAt (now (source .entry)) at)) ⌝ }
-{
-    let t = token_at(source, at);
-    let next = t.next;
-    if t.kind == kind::HASH {
-        let loaded = set_x(source, table, image, context, next, output);
-        return head_of(loaded, Id::X);
-    }
-    let symbol = symbol_at(source, table, context.names, at);
-    let Symbol::Integer { id } = symbol else {
-        let part = refuse_at(source, at);
-        return Head {
-            part,
-            output,
-            id: Id::X,
-        };
-    };
-    let stored = store(source, table, image, context, plain(id), next, left, output);
-    head_of(stored, id)
-}
-
-// An answer with what is counted.
-fn head_of(answer: Answer, id: Id) -> Head
-    ensures { λ r. ⌜ (r .part ≡ answer .part) × (r .output ≡ answer .output) × (r .id ≡ id) ⌝ }
-{
-    let part = answer.part;
-    let output = answer.output;
-    Head { part, output, id }
 }
 
 // Whether a token may follow a statement: one before it is empty.

@@ -47,8 +47,8 @@ use Rattle.emitter.proofs.emit_through.Reads as emit-through-reads
 use Rattle.emitter.proofs.fill_jump.Reads as fill-jump-reads
 use Rattle.cells.proofs.cell.cell_from.Reads as cell-from-reads
 use Rattle.expressions.proofs.emit_read.Reads as emit-read-reads
-use Rattle.expressions.proofs.comparison.Reads as comparison-reads
-use Rattle.expressions.proofs.operations.Reads as operations-reads
+use Rattle.expressions.proofs.comparing.comparison.Reads as comparison-reads
+use Rattle.expressions.proofs.operators.operations.Reads as operations-reads
 use Rattle.expressions.proofs.relation.emit_hole.Reads as emit-hole-reads
 use Rattle.expressions.proofs.relation.emit_test.Reads as emit-test-reads
 use Rattle.expressions.proofs.unaries.emit_unaries.Reads as emit-unaries-reads

@@ -1,11 +1,11 @@
--- `operation` meets its contract. Assumes nothing.
+-- `operators::operation` meets its contract. Assumes nothing.
 use mathlib.Core.Path.{sym, _∙_}
 use Rattle.expressions.proofs.Laws.{parsed-as}
 use Rattle.expressions.proofs.Comparisons.{none-left}
 use Rattle.expressions.proofs.Turns.{binary-turn, shift-turn, no-turn}
 use borrow.Author.Needs.{needs}
-use Rattle.expressions.proofs.operation.Statement.{statement}
-use Rattle.expressions.proofs.operation.Tie as tie
+use Rattle.expressions.proofs.operators.operation.Statement.{statement}
+use Rattle.expressions.proofs.operators.operation.Tie as tie
 
 operator-requires : tie.Need-operator-requires
 operator-requires c κs = search needs

@@ -1,10 +1,10 @@
--- `statements::set_x` meets its contract. Assumes nothing.
+-- `assignment::set_x` meets its contract. Assumes nothing.
 use Rattle.statements.specs.Forms.{afterEqual, loadedWords}
 use Rattle.cells.proofs.Laws.{part-read, part-failed}
 use Rattle.statements.proofs.Laws.{failing, from-got, leaf, just-words}
 use borrow.Author.Needs.{needs}
-use Rattle.statements.proofs.set_x.Statement.{statement}
-use Rattle.statements.proofs.set_x.Tie as tie
+use Rattle.statements.proofs.assignment.set_x.Statement.{statement}
+use Rattle.statements.proofs.assignment.set_x.Tie as tie
 
 expect-requires : tie.Need-expect-requires
 expect-requires c κs = search needs

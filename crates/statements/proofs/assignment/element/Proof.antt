@@ -1,4 +1,4 @@
--- `statements::element` meets its contract. Assumes nothing.
+-- `assignment::element` meets its contract. Assumes nothing.
 use Rattle.syntax.specs.Statements.{parseElement}
 use Rattle.syntax.specs.Emission.{targetCell}
 use Rattle.operands.specs.Trees.{treeCell}
@@ -6,8 +6,8 @@ use Rattle.cells.proofs.Laws.{got-read, got-failed}
 use Rattle.statements.proofs.Laws.{failing, from-got}
 use Rattle.statements.proofs.Assigns.{stored-as}
 use borrow.Author.Needs.{needs}
-use Rattle.statements.proofs.element.Statement.{statement}
-use Rattle.statements.proofs.element.Tie as tie
+use Rattle.statements.proofs.assignment.element.Statement.{statement}
+use Rattle.statements.proofs.assignment.element.Tie as tie
 
 subscript-at-requires : tie.Need-subscript-at-requires
 subscript-at-requires c κs = search needs

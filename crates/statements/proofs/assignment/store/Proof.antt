@@ -1,9 +1,9 @@
--- `statements::store` meets its contract. Assumes nothing.
+-- `assignment::store` meets its contract. Assumes nothing.
 use Rattle.statements.specs.Forms.{storedWords}
 use Rattle.statements.proofs.Laws.{kept, then-words}
 use borrow.Author.Needs.{needs}
-use Rattle.statements.proofs.store.Statement.{statement}
-use Rattle.statements.proofs.store.Tie as tie
+use Rattle.statements.proofs.assignment.store.Statement.{statement}
+use Rattle.statements.proofs.assignment.store.Tie as tie
 
 assigned-requires : tie.Need-assigned-requires
 assigned-requires c κs = search needs

@@ -1,10 +1,10 @@
--- `statements::assigned` meets its contract. Assumes nothing.
+-- `assignment::assigned` meets its contract. Assumes nothing.
 use Rattle.statements.specs.Forms.{afterEqual}
 use Rattle.cells.proofs.Laws.{part-read, part-failed}
 use Rattle.statements.proofs.Laws.{failing, from-got}
 use borrow.Author.Needs.{needs}
-use Rattle.statements.proofs.assigned.Statement.{statement}
-use Rattle.statements.proofs.assigned.Tie as tie
+use Rattle.statements.proofs.assignment.assigned.Statement.{statement}
+use Rattle.statements.proofs.assignment.assigned.Tie as tie
 
 expect-requires : tie.Need-expect-requires
 expect-requires c κs = search needs

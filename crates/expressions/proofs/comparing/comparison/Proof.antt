@@ -1,9 +1,9 @@
--- `comparison` meets its contract. Assumes nothing.
+-- `comparing::comparison` meets its contract. Assumes nothing.
 use mathlib.Core.Path.{_∙_}
 use Rattle.expressions.proofs.Comparisons.{none-left, relation-compared, test-read, no-comparison}
 use borrow.Author.Needs.{needs}
-use Rattle.expressions.proofs.comparison.Statement.{statement}
-use Rattle.expressions.proofs.comparison.Tie as tie
+use Rattle.expressions.proofs.comparing.comparison.Statement.{statement}
+use Rattle.expressions.proofs.comparing.comparison.Tie as tie
 
 token-at-requires : tie.Need-token-at-requires
 token-at-requires c κs = search needs

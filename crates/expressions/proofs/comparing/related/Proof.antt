@@ -1,10 +1,10 @@
--- `related` meets its contract. Assumes nothing.
+-- `comparing::related` meets its contract. Assumes nothing.
 use mathlib.Core.Path.{sym}
 use Rattle.expressions.proofs.Laws.{parsed-as}
 use Rattle.expressions.proofs.Comparisons.{related-failed, related-read}
 use borrow.Author.Needs.{needs}
-use Rattle.expressions.proofs.related.Statement.{statement}
-use Rattle.expressions.proofs.related.Tie as tie
+use Rattle.expressions.proofs.comparing.related.Statement.{statement}
+use Rattle.expressions.proofs.comparing.related.Tie as tie
 
 lone-cell-at-requires : tie.Need-lone-cell-at-requires
 lone-cell-at-requires c κs = search needs

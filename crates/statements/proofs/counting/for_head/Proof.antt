@@ -1,12 +1,12 @@
--- `statements::for_head` meets its contract. Assumes nothing.
+-- `counting::for_head` meets its contract. Assumes nothing.
 use mathlib.Core.Path.{refl}
 use Rattle.syntax.specs.Tree.{Id}
 use Rattle.operands.specs.Trees.{treeId, treeOperand, treeCell}
 use Rattle.statements.specs.Forms.{Head, counterOf, headWords}
 use Rattle.statements.proofs.Loops.{head-hash, head-integer, head-refused, heads, no-head}
 use borrow.Author.Needs.{needs}
-use Rattle.statements.proofs.for_head.Statement.{statement}
-use Rattle.statements.proofs.for_head.Tie as tie
+use Rattle.statements.proofs.counting.for_head.Statement.{statement}
+use Rattle.statements.proofs.counting.for_head.Tie as tie
 
 token-at-requires : tie.Need-token-at-requires
 token-at-requires c κs = search needs

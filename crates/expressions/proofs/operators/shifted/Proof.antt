@@ -1,11 +1,11 @@
--- `shifted` meets its contract. Assumes nothing.
+-- `operators::shifted` meets its contract. Assumes nothing.
 use mathlib.Core.Path.{refl}
 use Rattle.expressions.specs.Compiles.{Compiles}
 use Rattle.cells.proofs.Laws.{got-read, got-failed}
 use Rattle.expressions.proofs.Leaves.{shift}
 use borrow.Author.Needs.{needs}
-use Rattle.expressions.proofs.shifted.Statement.{statement}
-use Rattle.expressions.proofs.shifted.Tie as tie
+use Rattle.expressions.proofs.operators.shifted.Statement.{statement}
+use Rattle.expressions.proofs.operators.shifted.Tie as tie
 
 amount-at-requires : tie.Need-amount-at-requires
 amount-at-requires c κs = search needs

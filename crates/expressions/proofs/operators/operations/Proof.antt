@@ -1,4 +1,4 @@
--- `operations` meets its contract. Assumes nothing.
+-- `operators::operations` meets its contract. Assumes nothing.
 use mathlib.Core.Path.{_≡_, refl, sym, _∙_}
 use Prim.Native.Nat.{ℕ, _-_}
 use mathlib.Core.List.{List, []}
@@ -20,8 +20,8 @@ use Rattle.expressions.specs.Compiles.{Compiles}
 use Rattle.cells.proofs.Laws.{then-got, then-failed}
 use Rattle.expressions.proofs.Laws.{came, failed-as}
 use Rattle.expressions.proofs.Turns.{more, turn-one, turn-last, ended, stops, goes-on, one-operation}
-use Rattle.expressions.proofs.operations.Statement.{statement}
-use Rattle.expressions.proofs.operations.Tie as tie
+use Rattle.expressions.proofs.operators.operations.Statement.{statement}
+use Rattle.expressions.proofs.operators.operations.Tie as tie
 
 -- so many turns are left, and so many operations are done
 record Inv (source table image₀ : List ℕ) (context : Context) (at : ℕ) (held₀ : Output) (image : List ℕ) (i : ℕ) (held : Output) (k : ℕ) : Type 0 where
