@@ -12,11 +12,10 @@ use lib.ListN.{length}
 use Rattle.source.specs.Bytes.{whether, given}
 use Rattle.source.specs.Kinds
 use Rattle.source.specs.declared.Token.{Token}
-use Rattle.source.specs.Tokens.{tokenAt, nameOf, failureAt}
+use Rattle.source.specs.Tokens.{tokenAt, failureAt}
 use Rattle.instruction.specs.Code.{JMP, STA, IRS}
 use Rattle.syntax.specs.Tree.{Id, Operand, Expr, Stmt}
-use Rattle.syntax.specs.Symbols as symbols
-use Rattle.syntax.specs.Symbols.{Names, symbolOf, asInteger}
+use Rattle.syntax.specs.Symbols.{Names, asInteger}
 use Rattle.syntax.specs.Parse.{Got, andThen, failAt, is, expect}
 use Rattle.syntax.specs.Parse.Got.{got, failed}
 use Rattle.syntax.specs.Emission.{Sym, _⧺_, cellWords, exprEnd, exprWords, stmtWords}
@@ -37,6 +36,7 @@ use Rattle.emitter.proofs.Ends as ends
 use Rattle.expressions.specs.Compiles.{Compiles}
 use Rattle.statements.specs.Forms.{followed, afterEqual, Head, loopOf, counterOf, parseHead, storedWords, loadedWords, headWords, Heads}
 use Rattle.cells.proofs.Laws.{then-failed}
+use Rattle.cells.proofs.Names.{name-as}
 use Rattle.statements.proofs.Laws.{then-then, Reads, within-form}
 use Rattle.statements.proofs.Branches.{same-here}
 
@@ -44,12 +44,8 @@ use Rattle.statements.proofs.Branches.{same-here}
 
 -- a name used as an integer
 named-integer : (source : List ℕ) (names : Names) (t : Token) → nameAs source names asInteger t ≡ asInteger (symbolAt source names t)
-unfolding nameAs symbolAt asInteger
-named-integer source names t = go (is Kinds.name t)
-  where
-    go : (b : Bool) → whether b (λ _. asInteger (symbolOf names (nameOf source t))) (λ _. none) ≡ asInteger (whether b (λ _. symbolOf names (nameOf source t)) (λ _. symbols.Symbol.unknown))
-    go true = refl
-    go false = refl
+unfolding asInteger
+named-integer = name-as asInteger refl
 
 no-integer : (s : Symbol) → OneOf (1 ∷ 2 ∷ 3 ∷ 4 ∷ 5 ∷ []) (tagOf the-type s) → asInteger (treeSymbol s) ≡ none
 unfolding asInteger treeSymbol
