@@ -23,8 +23,8 @@ use source::operator_at;
 use source::token_at;
 
 struct OperandAnswer {
-    pub part: Part,
-    pub operand: Operand,
+    part: Part,
+    operand: Operand,
 }
 
 pub struct SubscriptAnswer {

@@ -1,5 +1,5 @@
 // Parsing of constants, cells and the first token of a term or statement: each as its definition in syntax, from an offset.
-// Here are what the parts answer, failures, and constants.
+// An answer's value counts where its part was read. Types, failures and constants are here.
 ghost use mathlib.Core.Path.{_≡_};
 ghost use Prim.Native.Nat.{ℕ, min};
 ghost use lib.Dec.{leb};
@@ -67,7 +67,6 @@ pub enum StatementStart {
     Call { number: u16 },
 }
 
-// An answer's value counts where its part was read.
 pub struct ConstantAnswer {
     pub part: Part,
     pub value: u16,
@@ -130,6 +129,7 @@ pub fn refuse_at(source: &[u8], at: usize) -> Part
     refused(token_at(source, at))
 }
 
+// What the token at an offset stands for as a name, by the table's first `names` entries.
 pub fn symbol_at(source: &[u8], table: &[u16], names: usize, at: usize) -> Symbol
     ensures { λ r. ⌜ treeSymbol r ≡ symbolAt (now (source .entry)) (heldBy names (now (table .entry))) (tokenAt (now (source .entry)) at) ⌝ }
 {
