@@ -9,7 +9,7 @@ use machine::run;
 ghost use Rattle.compiler.specs.Closing.{CompileCalled, RunCalled, Demand3Called};
 ghost use Rattle.compiler.specs.Outcomes.{Demand1Called};
 
-// "An image or one of the numbered failures with its place."
+// "A recipe handed in, whatever its bytes, comes back as an image or as one of the numbered failures. A machine state handed in comes back stepped, halted or failed."
 pub fn demand_one_called()
     ensures { λ r. ⌜ Demand1Called ⌝ }
 {}

@@ -1,8 +1,15 @@
-// Runs document 01's cases that are not starred, by name: the listing of each, and what is left in the image and in scratch.
+// Document 01's cases that are not starred, by name: the listing of each, what is left in the image and in scratch, and how the image that was laid runs.
 use case_input::parse_number;
 use case_input::part_end;
+use compiler::Answer;
+use effect::Registers;
+use effect::Switches;
 use libc::STDIN_FILENO;
 use libc::STDOUT_FILENO;
+use machine::Clock;
+use machine::Machine;
+use machine::Outcome;
+use machine::Request;
 
 // What every word of the lent slices holds before a case.
 const MARK: u16 = 7;
@@ -28,6 +35,47 @@ fn all_are(words: &[u16], value: u16) -> bool {
     true
 }
 
+fn print_number(name: &[u8], n: u32) {
+    print(name);
+    io::print_decimal(STDOUT_FILENO, n as u64);
+    print(b"\n");
+}
+
+// The image as it was laid, from its entry, all registers 0.
+fn run(image: &mut [u16], entry: u16) {
+    let registers = Registers {
+        a: 0,
+        b: 0,
+        c: false,
+    };
+    let switches = Switches {
+        one: false,
+        two: false,
+        three: false,
+        four: false,
+    };
+    let start = Machine {
+        registers,
+        p: entry,
+        switches,
+        halted: false,
+    };
+    let report = machine::run(
+        image,
+        start,
+        Clock { common: 0 },
+        Request { budget: 1000000 },
+    );
+    let outcome = report.outcome;
+    if let Outcome::Halted = outcome {
+        print(b"run=halted\n");
+    } else {
+        print(b"run=other\n");
+    }
+    print_number(b"steps=", report.steps);
+    print_number(b"a=", report.machine.registers.a as u32);
+}
+
 fn listing(source: &[u8], image: &mut [u16], scratch: &mut [u16]) {
     let answer = compiler::compile(source, image, scratch);
     let mut out = [0u8; 262144];
@@ -42,6 +90,13 @@ fn listing(source: &[u8], image: &mut [u16], scratch: &mut [u16]) {
         print(b"scratch=zeros\n");
     } else {
         print(b"scratch=left\n");
+    }
+    if let Answer::Accepted {
+        entry,
+        words: _,
+        globals: _,
+    } = answer {
+        run(image, entry);
     }
 }
 

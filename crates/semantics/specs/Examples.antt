@@ -72,6 +72,8 @@ rows =
     (".BEGIN .WHEN @ .ZERO .THEN @ = 1 .END", 0 ∷ 2 ∷ [], Ending.done 2 7 0) ∷
     -- one pass from -1: a body's end before the IRS, the loop's after it
     (".BEGIN .INTEGER I; .FOR I = -1 .DO @ = .ZERO .END", 0 ∷ 3 ∷ 4 ∷ [], Ending.done 4 0 0) ∷
+    -- one pass from -5 as well, if the body sets the counter to -1
+    (".BEGIN .INTEGER I; .FOR I = -5 .DO I = -1 .END", 0 ∷ 4 ∷ 5 ∷ [], Ending.done 5 65535 0) ∷
     -- two passes from -2, IRS and JMP between them
     (".BEGIN .FOR # = -2 .DO @ = .INC @ .END", 0 ∷ 2 ∷ 5 ∷ 6 ∷ [], Ending.done 6 9 0) ∷
     -- 65,536 passes from 0 are more than the fuel

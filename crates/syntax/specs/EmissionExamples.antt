@@ -2,9 +2,9 @@
 use mathlib.Core.Path.{_≡_, refl}
 use mathlib.Core.List.{List, [], _∷_, map}
 use Rattle.instruction.specs.Code.{LDA, STA, ADD, CAS, IRS, LDX}
-use Rattle.instruction.specs.Slot.{SKP, NOP, SSC, CRA, TCA, AOA}
-use Rattle.syntax.specs.Tree.{Id, Array, Operand, Subscript, Cell, Unary, Operator, Operation, Relation, Bare, Expr, Term, Cond, Target, Stmt}
-use Rattle.syntax.specs.Emission.{Sym, exprWords, condWords, stmtWords}
+use Rattle.instruction.specs.Slot.{HLT, SKP, NOP, SSC, CRA, TCA, AOA}
+use Rattle.syntax.specs.Tree.{Id, Array, Operand, Subscript, Cell, Unary, Operator, Operation, Relation, Bare, Expr, Term, Cond, Target, Stmt, Stmts}
+use Rattle.syntax.specs.Emission.{Sym, exprWords, condWords, stmtWords, mainWords}
 use Rattle.syntax.specs.Pool.{literalsOf, indexOf, addedAll}
 use Rattle.syntax.specs.Computed.{computed}
 
@@ -73,6 +73,11 @@ every-jump :
     (Sym.memory LDX five ∷ Sym.generic CRA ∷ Sym.memory IRS (Operand.named Id.x) ∷ Sym.jump 0o1001 ∷ []) ∷ []
 unfolding computed
 every-jump = refl
+
+-- every statement's words, one after the other, then HLT
+main-words : mainWords (Stmts.more (Stmts.more (Stmts.one clear) (Stmt.setX (Cell.plain five))) clear) 0o1000 ≡ Sym.generic CRA ∷ Sym.memory LDX five ∷ Sym.generic CRA ∷ Sym.generic HLT ∷ []
+unfolding computed
+main-words = refl
 
 -- `A[-1] = 5` pools 5, then -1
 pool-order : literalsOf (stmtWords (Stmt.assign (Target.item a (Subscript.by (Operand.literal 65535))) (Expr.chain [] (Term.cell (Cell.plain five)) [])) 0o1000) ≡ 5 ∷ 65535 ∷ []

@@ -49,7 +49,7 @@ module _ (source : List ℕ) (names : Names) where
       andThen (expect Kinds.equal source at) (λ _ n.
       andThen (expr n) (λ e next. got (stmt e) next))
 
-  -- "array element = expression"
+  -- "integer, array element or `@` = expression": an array element
   unfoldable pub parseElement : (ℕ → Got Expr) → Array → ℕ → Got Stmt
   parseElement expr a at =
       andThen (parseSubscript source names at) (λ subscript n.
