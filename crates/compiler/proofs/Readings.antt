@@ -21,11 +21,12 @@ use Rattle.declarations.specs.declared.Ends.{Ends}
 use Rattle.declarations.specs.declared.State.{State}
 use Rattle.declarations.specs.declared.ProgramAnswer.{ProgramAnswer}
 use Rattle.declarations.specs.Reads.{Reads}
-use Rattle.declarations.specs.States.{endOf}
+use Rattle.declarations.specs.States.{endOf, withEnd}
 use Rattle.declarations.specs.Procedures.{programIn, Compiled}
+use Rattle.declarations.proofs.Plans.{each-end}
 use Rattle.compiler.specs.declared.Answer.{Answer}
 use Rattle.compiler.specs.Compile.{resultOn, answerOf, imageAfter}
-use Rattle.compiler.specs.Passes.{Planned, countedOf}
+use Rattle.compiler.specs.Passes.{countedOf}
 
 -- ---- A part that is read
 
@@ -82,13 +83,13 @@ module _ (source : List ℕ) (short : length source ≤ 8192) where
           rw (accepted, entry, globals, c .code, c .pool)
 
       -- the plan is the definition's
-      ends : {plan' : Ends} → Planned (r .state .ends) (r .end .code) plan' → (k : ℕ) → endOf plan' k ≡ planOf p k .poolAt
+      ends : {plan' : Ends} → plan' ≡ withEnd (r .state .ends) (r .end .code) → (k : ℕ) → endOf plan' k ≡ planOf p k .poolAt
       unfolding planOf finished declared states.finish
       ends l k =
-          l .each k ∙ ap (λ x. getD (x ++ (r .end .code ∷ [])) k 0) (ap (λ st. st .ends) (c .state))
+          ap (λ e. endOf e k) l ∙ each-end (c .sound .ends) (r .end .code) k ∙ ap (λ x. getD (x ++ (r .end .code ∷ [])) k 0) (ap (λ st. st .ends) (c .state))
           ∙ ap (λ x. getD (states.stateAfter (p .declarations) .ends ++ (x ∷ [])) k 0) (c .code)
 
-      laid : {plan' : Ends} {s' : State} {end' : Output} {table' cleared laid' : List ℕ} {part' : Part} (image₀ : List ℕ) → Planned (r .state .ends) (r .end .code) plan'
+      laid : {plan' : Ends} {s' : State} {end' : Output} {table' cleared laid' : List ℕ} {part' : Part} (image₀ : List ℕ) → plan' ≡ withEnd (r .state .ends) (r .end .code)
           → cleared ≡ replicate 16384 0 → Reads (Compiled plan' cleared s' end' table' laid') part' (programIn source) → laid' ≡ imageAfter (compileDef source) image₀
       unfolding imageAfter compiled EmittedImage
       laid {cleared = cleared} image₀ l z second =
@@ -96,7 +97,7 @@ module _ (source : List ℕ) (short : length source ≤ 8192) where
           ∙ emitted-image source p n (same ∙ is) ∙ sym (ap (λ e. imageAfter e image₀) accepted)
 
   pub accepted-pass : (r : ProgramAnswer) {plan plan' : Ends} {image table image' table' cleared laid' : List ℕ} {s' : State} {end' : Output} {part' : Part} {answer : Answer} (image₀ : List ℕ)
-      → Came (Compiled plan image (r .state) (r .end) table image') (programIn source) → Planned (r .state .ends) (r .end .code) plan' → cleared ≡ replicate 16384 0
+      → Came (Compiled plan image (r .state) (r .end) table image') (programIn source) → plan' ≡ withEnd (r .state .ends) (r .end .code) → cleared ≡ replicate 16384 0
       → Reads (Compiled plan' cleared s' end' table' laid') part' (programIn source) → answer ≡ countedOf r
       → (answer ≡ answerOf (compileDef source)) × (laid' ≡ imageAfter (compileDef source) image₀)
   accepted-pass r image₀ first l z second e =

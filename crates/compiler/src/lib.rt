@@ -4,11 +4,12 @@ ghost use Prim.Native.Nat.{_≤_};
 ghost use lib.ListN.{length, replicate};
 ghost use Rattle.emission.specs.Compile.{compileDef};
 ghost use Rattle.compiler.specs.Compile.{resultOn, answerOf, imageAfter};
-ghost use Rattle.compiler.specs.Passes.{Planned, countedOf};
+ghost use Rattle.compiler.specs.Passes.{countedOf};
 use cells::Part;
 use declarations::Ends;
 use declarations::ProgramAnswer;
 use declarations::program::program;
+use declarations::sectors::with_end;
 use emitter::held_count;
 use symbols::clear;
 
@@ -41,26 +42,6 @@ pub enum Answer {
         number: u16,
         at: usize,
     },
-}
-
-// Where each sector's code ends, the open sector's last: there its pool begins.
-fn plan_of(ends: Ends, code: u16) -> Ends
-    requires { ⌜ ends .count ≤ 30 ⌝ }
-    ensures { λ r. ⌜ Planned ends code r ⌝ }
-{
-    let from = ends.codes;
-    let count = ends.count;
-    let mut codes = [0u16; 32];
-    let mut i = 0;
-    while i < count {
-        codes[i] = from[i];
-        i += 1;
-    }
-    codes[count] = code;
-    Ends {
-        codes,
-        count: count + 1,
-    }
 }
 
 // The answer for a program that was read.
@@ -101,7 +82,7 @@ fn passes(source: &[u8], image: &mut [u16], scratch: &mut [u16]) -> Answer
     let state = read.state;
     let end = read.end;
     let ends = state.ends;
-    let plan = plan_of(ends, end.code);
+    let plan = with_end(ends, end.code);
     clear(&mut *image);
     program(source, &mut *scratch, &mut *image, plan);
     accepted(read)

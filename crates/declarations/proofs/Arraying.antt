@@ -4,15 +4,15 @@ use mathlib.Core.Path.{_≡_, refl, sym, ap, _∙_}
 use mathlib.Core.Bool.{Bool, true, false}
 use mathlib.Core.List.{List, [], _∷_, _++_, foldl}
 use native.Mathlib.Omega.{arith}
-use borrow.Author.Tests.{eq-eqb, ne-eqb, le-leb, lt-leb, lt-ltb, le-ltb}
-use lib.Dec.{eqb, leb}
+use borrow.Author.Tests.{eq-eqb, ne-eqb, le-leb, lt-leb, lt-ltb, le-ltb, ltb-true}
+use lib.Dec.{eqb, leb, ltb}
 use lib.ListN.{length, set, replicate, length-append}
 use Rattle.source.specs.Bytes.{whether}
 use Rattle.source.specs.Kinds
 use Rattle.source.specs.declared.Token.{Token}
 use Rattle.source.specs.Tokens.{tokenAt}
 use Rattle.syntax.specs.Tree.{Name, Declaration}
-use Rattle.syntax.specs.Symbols.{Level, Names, Scope, declare, wordsTaken}
+use Rattle.syntax.specs.Symbols.{Level, Names, declare, wordsTaken}
 use Rattle.syntax.specs.State as states
 use Rattle.syntax.specs.Limits.{nameLimit, spaceLimit, arrayLimit}
 use Rattle.syntax.specs.Parse.{Got, andThen, failAt, within, expect, snoc, parted}
@@ -27,10 +27,11 @@ use Rattle.symbols.proofs.Entries.{array-entry}
 use Rattle.emitter.specs.Programs.{stored, padded, emitDeclaration, emitDeclarations}
 use Rattle.cells.specs.declared.Part.{Part}
 use Rattle.cells.specs.Answers.{partOf, gotWith}
+use Rattle.declarations.specs.declared.Scope.{Scope}
 use Rattle.declarations.specs.declared.State.{State}
 use Rattle.declarations.specs.Scopes.{scopeOf}
-use Rattle.declarations.specs.States.{endsOf, poolOf, stateOf, Sound, Anyhow, spaceNumber}
-use Rattle.declarations.specs.Arrays.{Filled}
+use Rattle.declarations.specs.States.{endsOf, poolOf, globalScope, withGlobal, stateOf, Sound, Anyhow, spaceNumber}
+use Rattle.declarations.specs.Arrays.{initialValue, Filled}
 use Rattle.declarations.proofs.Stating.{stored-more}
 use Rattle.declarations.specs.Forms.{arrayHead, oneArray, arrayIn}
 use Rattle.declarations.proofs.Reading.{then-got, then-failed, then-inv, never, within-on, within-failed, expect-here, expect-other}
@@ -60,14 +61,10 @@ module _ (source : List ℕ) (at limit : ℕ) {t : Token} {r : Part} (e : t ≡ 
 
 -- ---- An array's head
 
--- a global's name
-abbrev pub globalScope : State → List ℕ → Scope
-globalScope s table = scopeOf (record { names = s .names; level = 0; words = s .words; base = 0o200 }) table
-
-pub global-name : (source : List ℕ) (s : State) (table : List ℕ) (t : Token) {limit : ℕ} → limit ≡ nameLimit (globalScope s [])
-    → newName source (globalScope s table) limit t ≡ newName source (stateOf s table .scope) (nameLimit (stateOf s table .scope)) t
+pub global-name : (source : List ℕ) (s : State) (table : List ℕ) (t : Token) {scope : Scope} {limit : ℕ} → scope ≡ globalScope s → limit ≡ nameLimit (scopeOf scope [])
+    → newName source (scopeOf scope table) limit t ≡ newName source (stateOf s table .scope) (nameLimit (stateOf s table .scope)) t
 unfolding tables.levelOf nameLimit
-global-name source s table t e = ap (λ l. newName source (globalScope s table) l t) e
+global-name source s table t {scope} e l = ap (λ z. newName source (scopeOf scope table) z t) l ∙ ap (λ z. newName source (scopeOf z table) (nameLimit (scopeOf z [])) t) e
 
 then-assoc : {A B C : Type 0} (x : Got A) (f : A → ℕ → Got B) (g : B → ℕ → Got C) → andThen x (λ a n. andThen (f a n) g) ≡ andThen (andThen x f) g
 unfolding andThen
@@ -135,19 +132,46 @@ head-room source st at {name} {size} {n} e =
 
 -- ---- Initial values
 
-module _ (source : List ℕ) (names : Names) (size : ℕ) (values : List ℕ) (at : ℕ) where
-  pub initial-failed : {k a : ℕ} → parseConstant source names at ≡ failed k a → parseInitial source names size values at ≡ failed k a
-  unfolding parseInitial
-  initial-failed e = then-failed _ e
+module _ (source : List ℕ) (names : Names) (size at : ℕ) where
+  module _ (count : ℕ) where
+    pub value-failed : {k a : ℕ} → parseConstant source names at ≡ failed k a → initialValue source names size count at ≡ failed k a
+    unfolding initialValue
+    value-failed e = then-failed _ e
 
-  module _ {v n : ℕ} (e : parseConstant source names at ≡ got v n) {count : ℕ} (l : length values ≡ count) where
-    pub initial-many : size ≤ count → parseInitial source names size values at ≡ failAt (tokenAt source at) 14
-    unfolding parseInitial
-    initial-many h = then-got _ e ∙ rw (l, le-ltb count size h)
+    module _ {v n : ℕ} (e : parseConstant source names at ≡ got v n) where
+      pub value-many : size ≤ count → initialValue source names size count at ≡ failAt (tokenAt source at) 14
+      unfolding initialValue
+      value-many h = then-got _ e ∙ rw (le-ltb count size h)
 
-    pub initial-got : count < size → parseInitial source names size values at ≡ got (snoc values v) n
-    unfolding parseInitial
-    initial-got h = then-got _ e ∙ rw (l, lt-ltb count size h)
+      pub value-got : count < size → initialValue source names size count at ≡ got v n
+      unfolding initialValue
+      value-got h = then-got _ e ∙ rw (lt-ltb count size h)
+
+    pub value-room : {v n : ℕ} → initialValue source names size count at ≡ got v n → count < size
+    unfolding initialValue failAt
+    value-room {v} {n} e = let a = then-inv _ _ e in go (ltb count size) refl (a .0) (a .1) (a .3)
+      where
+        go : (b : Bool) → ltb count size ≡ b → (w m : ℕ) → whether b (λ _. got w m) (λ _. failAt (tokenAt source at) 14) ≡ got v n → count < size
+        go true q w m h = ltb-true count size q
+        go false q w m h = absurd (never h refl)
+
+  -- with the values before it
+  module _ (values : List ℕ) {count : ℕ} (l : length values ≡ count) where
+    more-values : parseInitial source names size values at ≡ andThen (initialValue source names size count at) (λ v n. got (snoc values v) n)
+    unfolding parseInitial initialValue andThen failAt
+    more-values = rw (← l) (go (parseConstant source names at) (ltb (length values) size))
+      where
+        go : (g : Got ℕ) (b : Bool) → andThen g (λ v n. whether b (λ _. got (snoc values v) n) (λ _. failAt (tokenAt source at) 14))
+            ≡ andThen (andThen g (λ v n. whether b (λ _. got v n) (λ _. failAt (tokenAt source at) 14))) (λ v n. got (snoc values v) n)
+        go (got v n) true = refl
+        go (got v n) false = refl
+        go (failed k a) b = refl
+
+    pub initial-failed : {k a : ℕ} → initialValue source names size count at ≡ failed k a → parseInitial source names size values at ≡ failed k a
+    initial-failed e = more-values ∙ then-failed _ e
+
+    pub initial-got : {v n : ℕ} → initialValue source names size count at ≡ got v n → parseInitial source names size values at ≡ got (snoc values v) n
+    initial-got e = more-values ∙ then-got _ e
 
 padded-none : (size : ℕ) → padded size [] ≡ replicate size 0
 unfolding padded
@@ -211,14 +235,14 @@ module _ (s : State) (t u image between after : List ℕ) (name : Packed) (size 
   pub array-declared : Sound s → 3584 ≤ length t → Roomy (stateOf s t) size → length (tables.heldBy (s .names) t) ≡ s .names → length u ≡ length t
       → tables.Declared (s .names) t name 0 (Kind.Array (s .words) size) u → between ≡ set image (0o200 + s .words) (0o40000 + s .array)
       → after ≡ stored between (s .array - size) (padded size values)
-      → Anyhow s t image (record { names = s .names + 1; words = s .words + 1; output = s .output; ends = s .ends; array = s .array - size }) u after (Declaration.array (unpack name) size values ∷ [])
+      → Anyhow s t image (withGlobal s (s .output) (s .array - size)) u after (Declaration.array (unpack name) size values ∷ [])
   unfolding emitDeclarations emitDeclaration states.step declare wordsTaken tables.levelWord
   array-declared h long room held same d e i =
       let few = room .names in
       let names = held-more (s .names) t u name 0 (Kind.Array (s .words) size) (omega arith) same d ∙ ap (λ x. (unpack name, x) ∷ tables.heldBy (s .names) t) (array-entry Level.outer (record { number = s .words; size = size })) in
       record {
         state = ap (λ x. record { scope = record { names = x; level = Level.outer; words = s .words + 1 }; code = s .output .code; pool = poolOf s; ends = endsOf (s .ends); array = s .array - size }) names;
-        sound = record { few = omega arith; each = omega (arith, h .each); last = h .last; used = h .used; fits = h .fits; top = omega (arith, h .top) };
+        sound = record { few = omega arith; each = omega (arith, h .each); ends = h .ends; used = h .used; fits = h .fits; top = omega (arith, h .top) };
         laid = λ _. i ∙ ap (λ x. stored x (s .array - size) (padded size values)) e;
       }
 

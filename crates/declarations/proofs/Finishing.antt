@@ -32,12 +32,13 @@ use Rattle.declarations.specs.declared.Ends.{Ends}
 use Rattle.declarations.specs.declared.State.{State}
 use Rattle.declarations.specs.declared.Scope as code
 use Rattle.declarations.specs.Scopes.{Scoped}
-use Rattle.declarations.specs.States.{endsOf, endOf, poolOf, stateOf, Sound, Declared, Anyhow, sectorNumber}
+use Rattle.declarations.specs.States.{endsOf, endOf, poolOf, globalScope, stateOf, Sound, Declared, Anyhow, sectorNumber}
 use Rattle.declarations.specs.Forms.{declarationsOf}
 use Rattle.declarations.specs.Procedures.{basesAt, mainIn, Finished, programIn, Compiled}
 use Rattle.declarations.proofs.Reading.{then-got, then-failed}
 use Rattle.declarations.proofs.Scoping.{stored-append, item-words}
 use Rattle.declarations.proofs.Limiting.{sector-number}
+use Rattle.declarations.proofs.Plans.{ends-length}
 use Rattle.declarations.proofs.Judging.{Exact, same-number, judged-exact}
 use Rattle.declarations.proofs.Proceeding.{end-failed, end-read}
 use Rattle.declarations.proofs.Dispatching.{items-state, main-def}
@@ -62,14 +63,14 @@ level-outer : (n : ℕ) → n ≡ 0 → Level.outer ≡ tables.levelOf n
 unfolding tables.levelOf
 level-outer n e = rw e
 
-pub globals-declared : (s : State) {t u image after : List ℕ} {inner : code.Scope} {items : List (Name × Item)} → Sound s → Scoped (record { names = s .names; level = 0; words = s .words; base = 0o200 }) t image inner u after items
+pub globals-declared : (s : State) {t u image after : List ℕ} {inner : code.Scope} {items : List (Name × Item)} → Sound s → Scoped (globalScope s) t image inner u after items
     → Anyhow s t image (record { names = inner .names; words = inner .words; output = s .output; ends = s .ends; array = s .array }) u after (declarationsOf items)
 unfolding tables.levelOf
 globals-declared s {t} {u} {image} {after} {inner} {items} h p =
     let scope = ap (λ l. record { names = tables.heldBy (inner .names) u; level = l; words = inner .words }) (level-outer (inner .level) (p .level)) ∙ p .scope in
     record {
       state = ap (λ x. states.withScope (stateOf s t) x) scope ∙ sym (items-state (stateOf s t) items);
-      sound = record { few = p .room .few; each = p .room .each; last = h .last; used = h .used; fits = h .fits; top = h .top };
+      sound = record { few = p .room .few; each = p .room .each; ends = h .ends; used = h .used; fits = h .fits; top = h .top };
       laid = λ ends. p .laid ∙ sym (items-emitted ends (stateOf s t) items image);
     }
 
@@ -95,8 +96,11 @@ module _ (source : List ℕ) (st : states.State) (at : ℕ) where
 pub main-lays : {f : emitted.Bases} {a c : emitted.Emitted} (b : emitted.Emitted) (main : Stmts) → Lays f a b (stmtsWords main) → c ≡ emitted.withWord b (getD tableOf HLT 0) → Lays f a c (λ at. stmtsWords main at ⧺ Sym.generic HLT ∷ [])
 main-lays {f} b main p e = sequence p (rw (← (e ∙ sym (generic-word f b HLT))) at (word {f = f} {a = b} (Sym.generic HLT)))
 
-module _ {s : State} (t : List ℕ) {image image₂ : List ℕ} {pool : ℕ} (output : Output) (main : Stmts) (h : Sound s) (ends : length (endsOf (s .ends)) ≡ s .ends .count)
+module _ {s : State} (t : List ℕ) {image image₂ : List ℕ} {pool : ℕ} (output : Output) (main : Stmts) (h : Sound s)
     (p : Lays (basesAt pool s) (emitted.emittedBy (s .output) image) (emitted.emittedBy output image₂) (λ at. stmtsWords main at ⧺ Sym.generic HLT ∷ [])) where
+  ends : length (endsOf (s .ends)) ≡ s .ends .count
+  ends = ends-length (h .ends)
+
   short : length (poolOf s) ≤ 512
   short = let u = h .used in let f = h .fits in omega (arith, u, f)
 
@@ -106,13 +110,13 @@ module _ {s : State} (t : List ℕ) {image image₂ : List ℕ} {pool : ℕ} (ou
   pub main-limit : sectorNumber (output .code + length (emitted.heldBy (output .pool))) (s .ends .count) (s .array) ≡ mainLimit (stateOf s t) main
   unfolding mainLimit states.finish mainWords
   main-limit =
-      same-number p (s .ends .count) (s .array) (h .used) (h .last) short
+      same-number p (s .ends .count) (s .array) (h .used) (h .ends .last) short
       ∙ ap (λ x. sectorNumber (x + length (addedAll (poolOf s) (literalsOf (mainWords main (s .output .code))))) (s .ends .count) (s .array)) place
       ∙ sym (sector-number (states.finish (stateOf s t) main) ends)
 
   exact : sectorNumber (output .code + length (emitted.heldBy (output .pool))) (s .ends .count) (s .array) ≡ 0 → Exact (basesAt pool s) (emitted.emittedBy (s .output) image) (emitted.emittedBy output image₂) (mainWords main (s .output .code)) (s .ends .count)
   unfolding mainWords
-  exact z = judged-exact p (s .ends .count) (s .array) (h .used) (h .last) short z
+  exact z = judged-exact p (s .ends .count) (s .array) (h .used) (h .ends .last) short z
 
   pub main-finished : (plan : Ends) {image' : List ℕ} → pool ≡ endOf plan (s .ends .count) → sectorNumber (output .code + length (emitted.heldBy (output .pool))) (s .ends .count) (s .array) ≡ 0
       → image' ≡ stored image₂ (output .code) (emitted.heldBy (output .pool)) → Finished plan s t image output image' main

@@ -3,6 +3,7 @@ pub mod Reading
 pub mod Naming
 pub mod Scoping
 pub mod Limiting
+pub mod Plans
 pub mod Stating
 pub mod Arraying
 pub mod Mapping

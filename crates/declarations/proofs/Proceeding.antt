@@ -11,7 +11,7 @@ use Rattle.source.specs.declared.Token.{Token}
 use Rattle.source.specs.Tokens.{tokenAt}
 use Rattle.syntax.specs.Tree.{Name, Item, Stmts, Declaration}
 use Rattle.syntax.specs.Symbols.{Symbol, Level, Names, Scope, declare, declareItem, localScope, wordsTaken}
-use Rattle.syntax.specs.Emission.{Sym, stmtsWords, procedureWords, _⧺_}
+use Rattle.syntax.specs.Emission.{Sym, stmtsWords, procedureWords}
 use Rattle.syntax.specs.State as states
 use Rattle.syntax.specs.Limits.{nameLimit, declarationLimit}
 use Rattle.syntax.specs.Parse.{Got, andThen, failAt, within, expect}
@@ -39,13 +39,14 @@ use Rattle.declarations.specs.declared.Ends.{Ends}
 use Rattle.declarations.specs.declared.State.{State}
 use Rattle.declarations.specs.declared.Scope as code
 use Rattle.declarations.specs.Scopes.{scopeOf, Scoped}
-use Rattle.declarations.specs.States.{endsOf, endOf, poolOf, stateOf, Sound, Declared, sectorNumber}
+use Rattle.declarations.specs.States.{endsOf, endOf, poolOf, withGlobal, stateOf, Sound, Declared, sectorNumber}
 use Rattle.declarations.specs.Forms.{headingIn, bodyIn, judgedIn, procedureIn}
-use Rattle.declarations.specs.Procedures.{framed, Framed, basesAt, Bodied}
+use Rattle.declarations.specs.Procedures.{Inner, framed, Framed, basesAt, Bodied}
 use Rattle.declarations.proofs.Reading.{Came, then-got, then-failed, then-inv, part-failed, expect-here, expect-other}
 use Rattle.declarations.proofs.Naming.{name-room}
 use Rattle.declarations.proofs.Scoping.{held-more, held-kept, take-less}
 use Rattle.declarations.proofs.Limiting.{sector-number, judged-failed, judged-read, judged-limit}
+use Rattle.declarations.proofs.Plans.{ends-length}
 use Rattle.declarations.proofs.Judging.{Exact, same-number, judged-exact}
 
 -- ---- The heading
@@ -82,31 +83,38 @@ inner-scope s t u name long few same d =
     let names = held-more (s .names) t u name 0 Kind.Unknown (omega arith) same d ∙ ap (λ x. (unpack name, x) ∷ tables.heldBy (s .names) t) (unknown-entry Level.outer) in
     ap₂ (λ x y. record { names = x; level = tables.levelOf y; words = 0 }) names (add-one (s .words))
 
--- so the locals are the definition's
-pub frame-parsed : (source : List ℕ) (s : State) (t u : List ℕ) (name : Packed) (at : ℕ) → 3584 ≤ length t → s .names + 1 ≤ 512 → length u ≡ length t → tables.Declared (s .names) t name 0 Kind.Unknown u
-    → {g : Got (List (Name × Item))} → parseLocals source (scopeOf (record { names = s .names + 1; level = s .words + 1; words = 0; base = s .output .code }) u) at ≡ g → parseLocals source (localScope (stateOf s t .scope) (unpack name)) at ≡ g
-frame-parsed source s t u name at long few same d e = ap (λ x. parseLocals source x at) (sym (inner-scope s t u name long few same d)) ∙ e
+pub inner-is : (s : State) (t u : List ℕ) (name : Packed) → 3584 ≤ length t → s .names + 1 ≤ 512 → length u ≡ length t → tables.Declared (s .names) t name 0 Kind.Unknown u
+    → Inner s t (unpack name) (record { names = s .names + 1; level = s .words + 1; words = 0; base = s .output .code }) u
+inner-is s t u name long few same d =
+    record { scope = inner-scope s t u name long few same d; room = record { long = omega arith; few = few; each = omega arith }; names = refl; base = refl; kept = d .kept }
 
-module _ (s : State) (t u v image between after : List ℕ) (name : Packed) (inner : code.Scope) (locals : List (Name × Item)) (output : Output) where
-  pub frame-framed : 3584 ≤ length t → s .names + 1 ≤ 512 → length u ≡ length t → tables.Declared (s .names) t name 0 Kind.Unknown u
-      → Scoped (record { names = s .names + 1; level = s .words + 1; words = 0; base = s .output .code }) u image inner v between locals
-      → after ≡ set (set between (0o200 + s .words) (s .output .code + inner .words)) (s .output .code + inner .words) 0
-      → output .code ≡ s .output .code + inner .words + 1 → emitted.heldBy (output .pool) ≡ poolOf s
-      → Framed s t image (unpack name) (inner .names) (s .output .code + inner .words) output v after locals
-  unfolding states.localWords
-  frame-framed long few same d p laid code pool =
-      let S = localScope (stateOf s t .scope) (unpack name) in
-      let inside = p .scope ∙ ap (λ x. foldl declareItem x locals) (inner-scope s t u name long few same d) in
-      let words : inner .words ≡ foldl declareItem S locals .words = ap (λ x. x .words) inside in
-      let link : s .output .code + inner .words ≡ states.linkOf (stateOf s t) (unpack name) locals = ap (λ x. s .output .code + x) words in
-      let start : s .output .code + 0 ≡ s .output .code = omega arith in
-      let image' = laid ∙ ap (λ x. set (set x (0o200 + s .words) (s .output .code + inner .words)) (s .output .code + inner .words) 0) (p .laid ∙ ap (λ x. stored image x (localValues locals)) start)
+-- so the locals are the definition's
+pub frame-parsed : (source : List ℕ) {s : State} {t u : List ℕ} {name : Name} {inner : code.Scope} (at : ℕ) → Inner s t name inner u
+    → {g : Got (List (Name × Item))} → parseLocals source (scopeOf inner u) at ≡ g → parseLocals source (localScope (stateOf s t .scope) name) at ≡ g
+frame-parsed source at i e = ap (λ x. parseLocals source x at) (sym (i .scope)) ∙ e
+
+module _ {s : State} {t u v image between : List ℕ} (after : List ℕ) {name : Name} {inner inner' : code.Scope} {locals : List (Name × Item)} (output : Output) where
+  pub frame-framed : Inner s t name inner u → Scoped inner u image inner' v between locals
+      → after ≡ set (set between (0o200 + s .words) (s .output .code + inner' .words)) (s .output .code + inner' .words) 0
+      → output .code ≡ s .output .code + inner' .words + 1 → emitted.heldBy (output .pool) ≡ poolOf s
+      → Framed s t image name (inner' .names) (s .output .code + inner' .words) output v after locals
+  unfolding states.localWords localScope
+  frame-framed i p laid code pool =
+      let S = localScope (stateOf s t .scope) name in
+      let inside = p .scope ∙ ap (λ x. foldl declareItem x locals) (i .scope) in
+      let words : inner' .words ≡ foldl declareItem S locals .words = ap (λ x. x .words) inside in
+      let link : s .output .code + inner' .words ≡ states.linkOf (stateOf s t) name locals = ap (λ x. s .output .code + x) words in
+      let none : inner .words ≡ 0 = ap (λ x. x .words) (i .scope) in
+      let base = i .base in
+      let names = i .names in
+      let start : inner .base + inner .words ≡ s .output .code = omega (arith, base, none) in
+      let image' = laid ∙ ap (λ x. set (set x (0o200 + s .words) (s .output .code + inner' .words)) (s .output .code + inner' .words) 0) (p .laid ∙ ap (λ x. stored image x (localValues locals)) start)
       ∙ ap (λ x. set (set (stored image (s .output .code) (localValues locals)) (0o200 + s .words) x) x 0) link in
-      let last : output .code ≡ suc (states.linkOf (stateOf s t) (unpack name) locals) = omega (arith, code, link) in
+      let last : output .code ≡ suc (states.linkOf (stateOf s t) name locals) = omega (arith, code, link) in
       record {
         linked = link;
         alive = ap (λ x. x .names) inside;
-        kept = take-less (7 * s .names) (7 * (s .names + 1)) v u (omega arith) (p .kept) ∙ d .kept;
+        kept = take-less (7 * s .names) (7 * inner .names) v u (omega (arith, names)) (p .kept) ∙ i .kept;
         laid = emitted-is image' last pool;
       }
     where
@@ -205,8 +213,10 @@ module _ (source : List ℕ) (st : states.State) (accumulator : Bool) (at : ℕ)
       pub procedure-on : {k : ℕ} → r ≡ Part.Read k → procedureIn source st accumulator at ≡ got (Declaration.procedure name accumulator (inside .0) (inside .1) ∷ []) k
       procedure-on q = on ∙ end-read source Kinds.semicolon limit (d ∷ []) (expect Kinds.END source m) h q
 
-module _ {s : State} {t image v image' : List ℕ} {pool : ℕ} {name : Name} {output : Output} {inside : List (Name × Item) × Stmts} (accumulator : Bool) (h : Sound s) (ends : length (endsOf (s .ends)) ≡ s .ends .count)
-    (p : Bodied s t image pool name output v image' inside) where
+module _ {s : State} {t image v image' : List ℕ} {pool : ℕ} {name : Name} {output : Output} {inside : List (Name × Item) × Stmts} (accumulator : Bool) (h : Sound s) (p : Bodied s t image pool name output v image' inside) where
+  ends : length (endsOf (s .ends)) ≡ s .ends .count
+  ends = ends-length (h .ends)
+
   abbrev link : ℕ
   link = states.linkOf (stateOf s t) name (inside .0)
 
@@ -223,20 +233,20 @@ module _ {s : State} {t image v image' : List ℕ} {pool : ℕ} {name : Name} {o
   pub procedure-limit : sectorNumber (output .code + length (emitted.heldBy (output .pool))) (s .ends .count) (s .array) ≡ declarationLimit (stateOf s t) (Declaration.procedure name accumulator (inside .0) (inside .1))
   unfolding declarationLimit states.step procedureWords
   procedure-limit =
-      same-number (p .lays) (s .ends .count) (s .array) low (h .last) short
+      same-number (p .lays) (s .ends .count) (s .array) low (h .ends .last) short
       ∙ ap (λ x. sectorNumber (x + length (addedAll (poolOf s) (literalsOf (procedureWords (inside .1) link)))) (s .ends .count) (s .array)) place
       ∙ sym (sector-number (states.step (stateOf s t) (Declaration.procedure name accumulator (inside .0) (inside .1))) ends)
 
   pub procedure-exact : sectorNumber (output .code + length (emitted.heldBy (output .pool))) (s .ends .count) (s .array) ≡ 0
       → Exact (basesAt pool s) (framed (stateOf s t) name (inside .0) image) (emitted.emittedBy output image') (procedureWords (inside .1) link) (s .ends .count)
   unfolding procedureWords
-  procedure-exact z = judged-exact (p .lays) (s .ends .count) (s .array) low (h .last) short z
+  procedure-exact z = judged-exact (p .lays) (s .ends .count) (s .array) low (h .ends .last) short z
 
   -- declared
   pub procedure-declared : (plan : Ends) (packed : Packed) (w : List ℕ) → name ≡ unpack packed → pool ≡ endOf plan (s .ends .count) → 3584 ≤ length t → length (tables.heldBy (s .names) t) ≡ s .names
       → length (stateOf s t .scope .names) < 512 → length v ≡ length t → length w ≡ length v → tables.Declared (s .names) v packed 0 (Kind.Procedure (s .words) accumulator) w
       → sectorNumber (output .code + length (emitted.heldBy (output .pool))) (s .ends .count) (s .array) ≡ 0
-      → Declared plan s t image (record { names = s .names + 1; words = s .words + 1; output = output; ends = s .ends; array = s .array }) w image' (Declaration.procedure name accumulator (inside .0) (inside .1) ∷ [])
+      → Declared plan s t image (withGlobal s output (s .array)) w image' (Declaration.procedure name accumulator (inside .0) (inside .1) ∷ [])
   unfolding emitDeclarations emitDeclaration states.step declare wordsTaken tables.levelWord
   procedure-declared plan packed w same poolIs long held few kept keeps d z =
       let x = procedure-exact z in
@@ -247,7 +257,7 @@ module _ {s : State} {t image v image' : List ℕ} {pool : ℕ} {name : Name} {o
       let at = poolIs ∙ ap (endOf plan) (sym ends) in
       record {
         state = state-is names code (x .pool);
-        sound = record { few = omega arith; each = omega (arith, h .each); last = h .last; used = x .used; fits = x .fits; top = h .top };
+        sound = record { few = omega arith; each = omega (arith, h .each); ends = h .ends; used = x .used; fits = x .fits; top = h .top };
         laid = ap (λ e. e .image) (x .all) ∙ ap (λ a. emitted.emitAll (basesAt a s) (framed (stateOf s t) name (inside .0) image) (procedureWords (inside .1) link) .image) at;
       }
     where

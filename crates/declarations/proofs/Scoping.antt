@@ -24,7 +24,7 @@ use Rattle.cells.specs.declared.Part.{Part}
 use Rattle.cells.specs.Answers.{gotWith}
 use Rattle.declarations.specs.declared.Scope as code
 use Rattle.declarations.specs.Scopes.{scopeOf, Room, Scoped}
-use Rattle.declarations.proofs.Reading.{then-got, then-failed, then-inv, read-with, map-then}
+use Rattle.declarations.proofs.Reading.{then-got, then-failed, then-inv, map-then}
 use Rattle.declarations.proofs.Naming.{name-room, limit-same}
 
 -- ---- Lists
@@ -154,20 +154,24 @@ module _ (source : List ℕ) (scope : Scope) (at : ℕ) where
   unfolding parseItem
   item-failed word e = then-failed _ e
 
-  pub item-integer : (part : Part) {name : Name} {n : ℕ} → newName source scope (itemLimit ItemWord.integer scope) (tokenAt source at) ≡ got name n → part ≡ Part.Read n
-      → gotWith part (name, Item.integer) ≡ parseItem source ItemWord.integer scope at
-  unfolding parseItem itemFrom
-  item-integer part e h = read-with h (then-got _ e)
+  pub item-on : (word : ItemWord) {name : Name} {n : ℕ} → newName source scope (itemLimit word scope) (tokenAt source at) ≡ got name n → parseItem source word scope at ≡ itemFrom source word scope name n
+  unfolding parseItem
+  item-on word e = then-got _ e
 
-  pub item-constant : (part : Part) (v : ℕ) {name : Name} {n : ℕ} → newName source scope (itemLimit ItemWord.constant scope) (tokenAt source at) ≡ got name n
-      → gotWith part v ≡ andThen (expect Kinds.equal source n) (λ _ m. parseConstant source (scope .names) m) → gotWith part (name, Item.constant v) ≡ parseItem source ItemWord.constant scope at
-  unfolding parseItem itemFrom parseValue
-  item-constant part v {name} {n} e h = map-then (λ x. (name, Item.constant x)) part v (expect Kinds.equal source n) (λ m. parseConstant source (scope .names) m) h ∙ sym (then-got _ e)
+-- an item after its name
+module _ (source : List ℕ) (scope : Scope) (name : Name) (at : ℕ) where
+  pub from-integer : gotWith (Part.Read at) (name, Item.integer) ≡ itemFrom source ItemWord.integer scope name at
+  unfolding gotWith itemFrom
+  from-integer = refl
 
-  pub item-compconstant : (part : Part) (v : ℕ) {name : Name} {n : ℕ} → newName source scope (itemLimit ItemWord.compconstant scope) (tokenAt source at) ≡ got name n
-      → gotWith part v ≡ andThen (expect Kinds.equal source n) (λ _ m. parseConstant source (scope .names) m) → gotWith part (name, Item.compconstant v) ≡ parseItem source ItemWord.compconstant scope at
-  unfolding parseItem itemFrom parseValue
-  item-compconstant part v {name} {n} e h = map-then (λ x. (name, Item.compconstant x)) part v (expect Kinds.equal source n) (λ m. parseConstant source (scope .names) m) h ∙ sym (then-got _ e)
+  module _ (part : Part) (v : ℕ) (h : gotWith part v ≡ andThen (expect Kinds.equal source at) (λ _ m. parseConstant source (scope .names) m)) where
+    pub from-constant : gotWith part (name, Item.constant v) ≡ itemFrom source ItemWord.constant scope name at
+    unfolding itemFrom parseValue
+    from-constant = map-then (λ x. (name, Item.constant x)) part v (expect Kinds.equal source at) (λ m. parseConstant source (scope .names) m) h
+
+    pub from-compconstant : gotWith part (name, Item.compconstant v) ≡ itemFrom source ItemWord.compconstant scope name at
+    unfolding itemFrom parseValue
+    from-compconstant = map-then (λ x. (name, Item.compconstant x)) part v (expect Kinds.equal source at) (λ m. parseConstant source (scope .names) m) h
 
 -- an item that was read had a name's room
 pub item-room : (source : List ℕ) (word : ItemWord) (scope : Scope) (at : ℕ) {x : Name × Item} {n : ℕ} → parseItem source word scope at ≡ got x n → length (scope .names) < 512

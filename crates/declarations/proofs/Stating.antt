@@ -5,7 +5,7 @@ use mathlib.Core.List.{List, [], _∷_, _++_, foldl}
 use native.Mathlib.Omega.{arith}
 use native.Mathlib.Numerals.{add-one}
 use lib.ListN.{length, getD, set, take, replicate, length-replicate, replicate-append-replicate}
-use lib.Seq.{take-suc, take-suc-set, length-take-le}
+use lib.Seq.{take-suc, length-take-le}
 use Rattle.syntax.specs.Tree.{Declaration}
 use Rattle.syntax.specs.Symbols.{Level}
 use Rattle.syntax.specs.State as states
@@ -15,7 +15,8 @@ use Rattle.emitter.specs.Programs.{stored, emitDeclaration, emitDeclarations}
 use Rattle.declarations.specs.declared.Ends.{Ends}
 use Rattle.declarations.specs.declared.State.{State}
 use Rattle.emitter.specs.declared.Output.{Output}
-use Rattle.declarations.specs.States.{endsOf, endOf, poolOf, stateOf, Sound, Declared, Anyhow, Moved}
+use Rattle.declarations.specs.States.{endsOf, endOf, withEnd, poolOf, stateOf, Sound, Declared, Anyhow, Moved}
+use Rattle.declarations.proofs.Plans.{ends-length, one-end, one-closed}
 use Rattle.declarations.proofs.Scoping.{fold-append, stored-append}
 
 -- ---- Words stored one after another
@@ -35,14 +36,6 @@ module _ (image : List ℕ) (at : ℕ) {now after : List ℕ} where
 
   pub stored-zero : (i : ℕ) → now ≡ stored image at (replicate i 0) → after ≡ set now (at + i) 0 → after ≡ stored image at (replicate (i + 1) 0)
   stored-zero i e h = stored-more (replicate i 0) 0 i (length-replicate i 0) e h ∙ ap (stored image at) (replicate-append-replicate i 1 0)
-
--- ---- The code ends
-
-pub ends-length : (e : Ends) → length (e .codes) ≡ 32 → e .count ≤ 30 → length (endsOf e) ≡ e .count
-ends-length e l h = length-take-le (e .count) (e .codes) (omega arith)
-
-pub one-end : (ends : List ℕ) (n v : ℕ) → n < length ends → take (n + 1) (set ends n v) ≡ take n ends ++ (v ∷ [])
-one-end ends n v h = rw add-one (take-suc-set ends n v h)
 
 -- ---- One after another
 
@@ -82,18 +75,19 @@ module _ {s s' s'' : State} {t t' t'' i i' i'' : List ℕ} {xs ys : List Declara
 
 -- ---- `.NEXTSECTOR`
 
-pub next-moved : (s : State) (image image' : List ℕ) (ends : Ends) (output : Output) → Sound s → length (s .ends .codes) ≡ 32 → s .ends .count + 1 ≤ 30 → endsOf ends ≡ endsOf (s .ends) ++ (s .output .code ∷ [])
-    → ends .count ≡ s .ends .count + 1 → output .code ≡ 512 * (s .ends .count + 2) → emitted.heldBy (output .pool) ≡ [] → image' ≡ stored image (s .output .code) (poolOf s)
+pub next-moved : (s : State) (image image' : List ℕ) (ends : Ends) (output : Output) → Sound s → s .ends .count + 1 ≤ 30 → ends ≡ withEnd (s .ends) (s .output .code)
+    → output .code ≡ 512 * (s .ends .count + 2) → emitted.heldBy (output .pool) ≡ [] → image' ≡ stored image (s .output .code) (poolOf s)
     → Moved s image (record { names = s .names; words = s .words; output = output; ends = ends; array = s .array }) image' (Declaration.nextSector ∷ [])
 unfolding emitDeclarations emitDeclaration states.step
-next-moved s image image' ends output h long few e count code pool laid =
-    let l = ends-length (s .ends) long (h .last) in
+next-moved s image image' ends output h few e code pool laid =
+    let l = ends-length (h .ends) in
     let c : output .code ≡ 512 * suc (suc (length (endsOf (s .ends)))) = omega (arith, code, l) in
     let n = ap length pool in
+    let count : ends .count ≡ s .ends .count + 1 = ap (λ x. x .count) e in
     record {
       at = λ table. record {
-        state = next-state table c pool e;
-        sound = record { few = h .few; each = h .each; last = omega (arith, few, count); used = omega (arith, n, code, count); fits = omega (arith, n, code, count); top = h .top };
+        state = next-state table c pool (ap endsOf e ∙ one-end (h .ends) (s .output .code));
+        sound = record { few = h .few; each = h .each; ends = rw e (one-closed (h .ends) (s .output .code) few); used = omega (arith, n, code, count); fits = omega (arith, n, code, count); top = h .top };
         laid = λ _. laid;
       };
     }

@@ -23,10 +23,11 @@ use Rattle.emitter.specs.Lays.{Lays}
 use Rattle.emitter.specs.Programs.{stored, localValues, emitMain, emitProgram}
 use Rattle.emitter.specs.declared.Output.{Output}
 use Rattle.declarations.specs.declared.Ends.{Ends}
+use Rattle.declarations.specs.declared.Scope.{Scope}
 use Rattle.declarations.specs.declared.State.{State}
 use Rattle.declarations.specs.declared.ItemWord.{ItemWord}
 use Rattle.declarations.specs.declared.WordFound.{WordFound}
-use Rattle.declarations.specs.Scopes.{treeWord}
+use Rattle.declarations.specs.Scopes.{treeWord, scopeOf, Room}
 use Rattle.declarations.specs.States.{endOf, stateOf, Sound}
 
 -- the item word of a kind of token
@@ -36,6 +37,14 @@ wordOf kind = given (find (eqb kind) declarations.itemWords) (λ row. some (row 
 unfoldable pub treeFound : WordFound → Option declarations.ItemWord
 treeFound (WordFound.Word w) = some (treeWord w)
 treeFound WordFound.Nothing = none
+
+-- what a procedure's locals are declared under: its name is taken, and not yet known
+pub record Inner (s : State) (table : List ℕ) (name : Name) (inner : Scope) (table' : List ℕ) : Type 0 where
+  pub scope : scopeOf inner table' ≡ localScope (stateOf s table .scope) name
+  pub room : Room inner table'
+  pub names : inner .names ≡ s .names + 1
+  pub base : inner .base ≡ s .output .code
+  pub kept : take (7 * s .names) table' ≡ take (7 * s .names) table
 
 -- what is laid of a procedure before its statements: its locals, its word in sector 0, and its link
 abbrev pub framed : states.State → Name → List (Name × Item) → List ℕ → emitted.Emitted

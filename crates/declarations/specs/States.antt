@@ -1,9 +1,9 @@
 -- The code's state as the definitions' state, and what a declaration does to it. Assumes nothing.
-use Prim.Native.Nat.{ℕ, _+_, _*_, _≤_}
+use Prim.Native.Nat.{ℕ, _+_, _-_, _*_, _≤_}
 use mathlib.Core.Path.{_≡_}
-use mathlib.Core.List.{List, foldl}
+use mathlib.Core.List.{List, _++_, foldl}
 use lib.Dec.{leb}
-use lib.ListN.{length, getD, take}
+use lib.ListN.{length, getD, set, take, replicate}
 use Rattle.source.specs.Bytes.{whether}
 use Rattle.syntax.specs.Tree.{Declaration}
 use Rattle.syntax.specs.Symbols.{Level}
@@ -11,7 +11,9 @@ use Rattle.syntax.specs.State as states
 use Rattle.symbols.specs.Table.{heldBy}
 use Rattle.emitter.specs.Emitted as emitted
 use Rattle.emitter.specs.Programs.{emitDeclarations}
+use Rattle.emitter.specs.declared.Output.{Output}
 use Rattle.declarations.specs.declared.Ends.{Ends}
+use Rattle.declarations.specs.declared.Scope.{Scope}
 use Rattle.declarations.specs.declared.State.{State}
 
 -- the code ends that count
@@ -22,6 +24,16 @@ endsOf e = take (e .count) (e .codes)
 abbrev pub endOf : Ends → ℕ → ℕ
 endOf e k = getD (e .codes) k 0
 
+-- one end more
+abbrev pub withEnd : Ends → ℕ → Ends
+withEnd e code = record { codes = set (e .codes) (e .count) code; count = e .count + 1 }
+
+-- the ends of at most 30 closed sectors, and zeros after them, 32 words in all
+pub record Closed (e : Ends) : Type 0 where
+  pub last : e .count ≤ 30
+  pub long : length (e .codes) ≡ 32
+  pub spare : e .codes ≡ endsOf e ++ replicate (32 - e .count) 0
+
 abbrev pub poolOf : State → List ℕ
 poolOf s = emitted.heldBy (s .output .pool)
 
@@ -30,11 +42,19 @@ abbrev pub stateOf : State → List ℕ → states.State
 stateOf s table =
     record { scope = record { names = heldBy (s .names) table; level = Level.outer; words = s .words }; code = s .output .code; pool = poolOf s; ends = endsOf (s .ends); array = s .array }
 
+-- what a global is declared under: its word is from '200 on
+abbrev pub globalScope : State → Scope
+globalScope s = record { names = s .names; level = 0; words = s .words; base = 0o200 }
+
+-- one more global, with what is emitted then and element 0 of the next array
+abbrev pub withGlobal : State → Output → ℕ → State
+withGlobal s output array = record { names = s .names + 1; words = s .words + 1; output = output; ends = s .ends; array = array }
+
 -- what holds between declarations: each word is a name's, code and pool fit the open sector, and each word of the pool has a word that uses it
 pub record Sound (s : State) : Type 0 where
   pub few : s .names ≤ 512
   pub each : s .words ≤ s .names
-  pub last : s .ends .count ≤ 30
+  pub ends : Closed (s .ends)
   pub used : length (poolOf s) + 512 * (s .ends .count + 1) ≤ s .output .code
   pub fits : s .output .code + length (poolOf s) ≤ 512 * (s .ends .count + 2)
   pub top : s .array ≤ 16383

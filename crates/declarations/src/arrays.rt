@@ -1,47 +1,41 @@
-// Arrays, with their initial values.
+// Arrays.
 ghost use mathlib.Core.Path.{_≡_};
 ghost use mathlib.Core.List.{[], _∷_};
 ghost use Prim.Native.Nat.{ℕ, _+_, _≤_};
 ghost use lib.Dec.{leb};
-ghost use lib.ListN.{length, replicate};
+ghost use lib.ListN.{length};
 ghost use Rattle.source.specs.Kinds as kinds;
 ghost use Rattle.syntax.specs.Parse.{andThen, within, parted, expect as expectDef};
 ghost use Rattle.syntax.specs.Parse.Got.{got};
 ghost use Rattle.syntax.specs.Cells.{parseInRange};
-ghost use Rattle.syntax.specs.Declarations.{sizeOf, parseInitial, parseInitials};
+ghost use Rattle.syntax.specs.Declarations.{sizeOf};
 ghost use Rattle.symbols.specs.Packing.{unpack};
 ghost use Rattle.symbols.specs.Table as tables;
 ghost use Rattle.emitter.specs.Emitted.{heldBy};
-ghost use Rattle.emitter.specs.Programs.{stored, padded};
 ghost use Rattle.cells.specs.Answers.{partOf, gotWith};
 ghost use Rattle.declarations.specs.Reads.{Reads};
 ghost use Rattle.declarations.specs.States.{stateOf, Sound, Anyhow, spaceNumber};
 ghost use Rattle.declarations.specs.Forms.{arrayHead, oneArray, arrayIn, arraysIn};
-ghost use Rattle.declarations.specs.Arrays.{Filled};
 use crate::Answer;
 use crate::HeadAnswer;
-use crate::Scope;
 use crate::State;
-use crate::ValuesAnswer;
-use crate::items::name_limit;
+use crate::globals::declare_global;
+use crate::globals::global_name;
+use crate::globals::store_global;
 use crate::limits::space_limit;
-use crate::names::new_name;
 use crate::names::pass_at;
+use crate::values::initials;
 use cells::ConstantAnswer;
 use cells::Part;
-use cells::constant_at;
 use cells::expect;
 use cells::fail_at;
 use cells::failures;
 use cells::size_at;
 use cells::size_of;
 use emitter::Output;
-use emitter::store;
 use source::kind::COMMA;
 use source::kind::LEFT_BRACKET;
-use source::kind::LEFT_PARENTHESIS;
 use source::kind::RIGHT_BRACKET;
-use source::kind::RIGHT_PARENTHESIS;
 use source::kind::SEMICOLON;
 use source::token_at;
 use symbols::Kind;
@@ -74,13 +68,7 @@ fn array_head(source: &[u8], table: &[u16], state: State, at: usize) -> HeadAnsw
     ensures { λ r. ⌜ gotWith (r .part) (unpack (r .name), r .size) ≡ arrayHead (now (source .entry)) (stateOf state (now (table .entry))) at ⌝ }
 {
     let names = state.names;
-    let scope = Scope {
-        names,
-        level: 0,
-        words: state.words,
-        base: 0o200,
-    };
-    let named = new_name(source, table, scope, name_limit(scope), at);
+    let named = global_name(source, table, state, at);
     let part = named.part;
     let name = named.name;
     let Part::Read { next } = part else {
@@ -108,90 +96,6 @@ fn array_head(source: &[u8], table: &[u16], state: State, at: usize) -> HeadAnsw
     }
 }
 
-// Zeros from an address on.
-fn fill(image: &mut [u16], at: usize, count: usize)
-    requires { ⌜ at + count ≤ 65536 ⌝ }
-    ensures { λ _. ⌜ now (image .exit) ≡ stored (now (image .entry)) at (replicate count 0) ⌝ }
-{
-    let mut i = 0;
-    while i < count {
-        store(image, at + i, 0);
-        i += 1;
-    }
-}
-
-// Initial values parted by commas, stored from an address on.
-fn values(
-    source: &[u8],
-    table: &[u16],
-    image: &mut [u16],
-    names: usize,
-    first: usize,
-    size: u16,
-    at: usize,
-) -> ValuesAnswer
-    requires { ⌜ first + size ≤ 65536 ⌝ }
-    ensures { λ r. ⌜ Reads (Filled first size (now (image .entry)) (r .count) (now (image .exit))) (r .part)
-        (parted (now (source .entry)) kinds.comma (parseInitial (now (source .entry)) (tables.heldBy names (now (table .entry))) size []) (parseInitial (now (source .entry)) (tables.heldBy names (now (table .entry))) size) at) ⌝ }
-{
-    let mut count: u16 = 0;
-    let mut from = at;
-    let mut left = source.len();
-    loop {
-        let one = constant_at(source, table, names, from);
-        let part = one.part;
-        let Part::Read { next } = part else {
-            return ValuesAnswer { part, count };
-        };
-        if size <= count {
-            let t = token_at(source, from);
-            return ValuesAnswer {
-                part: fail_at(t, failures::TOO_MANY_VALUES),
-                count,
-            };
-        }
-        store(image, first + count as usize, one.value);
-        count += 1;
-        let t = token_at(source, next);
-        if left == 0 {
-            return ValuesAnswer { part, count };
-        }
-        if t.kind != COMMA {
-            return ValuesAnswer { part, count };
-        }
-        from = t.next;
-        left -= 1;
-    }
-}
-
-// The words of an array, with the initial values if they are given.
-fn initials(
-    source: &[u8],
-    table: &[u16],
-    image: &mut [u16],
-    names: usize,
-    first: usize,
-    size: u16,
-    at: usize,
-) -> Part
-    requires { ⌜ first + size ≤ 65536 ⌝ }
-    ensures { λ r. ⌜ Reads (λ vs. now (image .exit) ≡ stored (now (image .entry)) first (padded size vs)) r (parseInitials (now (source .entry)) (tables.heldBy names (now (table .entry))) size at) ⌝ }
-{
-    let t = token_at(source, at);
-    if t.kind != LEFT_PARENTHESIS {
-        fill(image, first, size as usize);
-        return Part::Read { next: at };
-    }
-    let list = values(source, table, image, names, first, size, t.next);
-    let part = list.part;
-    let Part::Read { next } = part else {
-        return part;
-    };
-    let count = list.count;
-    fill(image, first + count as usize, (size - count) as usize);
-    expect(source, RIGHT_PARENTHESIS, next)
-}
-
 // An array, declared and laid.
 fn array(source: &[u8], table: &mut [u16], image: &mut [u16], state: State, at: usize) -> Answer
     requires { ⌜ Sound state × (3584 ≤ length (now table)) ⌝ }
@@ -204,36 +108,29 @@ fn array(source: &[u8], table: &mut [u16], image: &mut [u16], state: State, at: 
     };
     let size = head.size;
     let name = head.name;
-    let names = state.names;
     let words = state.words;
     let top = state.array;
-    store(image, 0o200 + words as usize, 0o40000 + top);
+    store_global(image, words, 0o40000 + top);
     let first = top - size;
-    let part = initials(source, table, image, names, first as usize, size, next);
+    let part = initials(
+        source,
+        table,
+        image,
+        state.names,
+        first as usize,
+        size,
+        next,
+    );
     let Part::Read { next: _ } = part else {
         return Answer { part, state };
     };
-    symbols::declare(
-        table,
-        names,
-        name,
-        0,
-        Kind::Array {
-            number: words,
-            size,
-        },
-    );
-    let output = state.output;
-    let ends = state.ends;
+    let kind = Kind::Array {
+        number: words,
+        size,
+    };
     Answer {
         part,
-        state: State {
-            names: names + 1,
-            words: words + 1,
-            output,
-            ends,
-            array: first,
-        },
+        state: declare_global(table, state, state.output, first, name, kind),
     }
 }
 

@@ -1,13 +1,12 @@
-// Integers, constants and compconstants, at both levels.
+// An integer, constant or compconstant, at both levels.
 ghost use mathlib.Core.Path.{_≡_};
 ghost use mathlib.Core.List.{[], _∷_};
 ghost use Prim.Native.Nat.{_+_, _*_, _≤_};
 ghost use lib.ListN.{length};
 ghost use Rattle.source.specs.Kinds as kinds;
-ghost use Rattle.syntax.specs.Parse.{andThen, parted, expect as expectDef};
+ghost use Rattle.syntax.specs.Parse.{andThen, expect as expectDef};
 ghost use Rattle.syntax.specs.Cells.{parseConstant};
-ghost use Rattle.syntax.specs.Limits.{nameLimit};
-ghost use Rattle.syntax.specs.Declarations.{itemLimit, parseItem, parseLocal, parseList};
+ghost use Rattle.syntax.specs.Declarations.{itemLimit, itemFrom, parseItem};
 ghost use Rattle.symbols.specs.Packing.{unpack};
 ghost use Rattle.symbols.specs.Table.{heldBy, itemKind};
 ghost use Rattle.emitter.specs.Programs.{stored, itemValues};
@@ -19,30 +18,16 @@ use crate::ItemAnswer;
 use crate::ItemWord;
 use crate::Scope;
 use crate::ScopeAnswer;
+use crate::names::name_limit;
 use crate::names::new_name;
 use cells::ConstantAnswer;
 use cells::Part;
 use cells::constant_at;
 use cells::expect;
-use cells::failures;
 use emitter::store;
-use source::kind::COMMA;
 use source::kind::EQUAL;
-use source::kind::SEMICOLON;
-use source::token_at;
 use symbols::Kind;
-
-// At a declared name that takes a word: 11 where sector 0 has none left.
-pub fn name_limit(scope: Scope) -> u16
-    ensures { λ r. ⌜ r ≡ nameLimit (scopeOf scope []) ⌝ }
-{
-    if scope.level == 0 {
-        if 0o600 <= scope.words {
-            return failures::NO_GLOBAL_LEFT;
-        }
-    }
-    0
-}
+use symbols::Packed;
 
 fn item_limit(word: ItemWord, scope: Scope) -> u16
     ensures { λ r. ⌜ r ≡ itemLimit (treeWord word) (scopeOf scope []) ⌝ }
@@ -65,6 +50,46 @@ fn value_at(source: &[u8], table: &[u16], names: usize, at: usize) -> ConstantAn
     constant_at(source, table, names, next)
 }
 
+// An item after its name.
+fn item_from(
+    source: &[u8],
+    table: &[u16],
+    scope: Scope,
+    word: ItemWord,
+    name: Packed,
+    at: usize,
+) -> ItemAnswer
+    ensures { λ r. ⌜ gotWith (r .part) (unpack (r .name), treeItem (r .item)) ≡ itemFrom (now (source .entry)) (treeWord word) (scopeOf scope (now (table .entry))) (unpack name) at ⌝ }
+{
+    match word {
+        ItemWord::Integer => ItemAnswer {
+            part: Part::Read { next: at },
+            name,
+            item: Item::Integer,
+        },
+        ItemWord::Constant => {
+            let valued = value_at(source, table, scope.names, at);
+            let part = valued.part;
+            let value = valued.value;
+            ItemAnswer {
+                part,
+                name,
+                item: Item::Constant { value },
+            }
+        }
+        ItemWord::Compconstant => {
+            let valued = value_at(source, table, scope.names, at);
+            let part = valued.part;
+            let value = valued.value;
+            ItemAnswer {
+                part,
+                name,
+                item: Item::Compconstant { value },
+            }
+        }
+    }
+}
+
 // A name and its item.
 fn item_at(source: &[u8], table: &[u16], scope: Scope, word: ItemWord, at: usize) -> ItemAnswer
     requires { ⌜ 7 * scope .names ≤ length (now table) ⌝ }
@@ -80,35 +105,7 @@ fn item_at(source: &[u8], table: &[u16], scope: Scope, word: ItemWord, at: usize
             item: Item::Integer,
         };
     };
-    match word {
-        ItemWord::Integer => ItemAnswer {
-            part,
-            name,
-            item: Item::Integer,
-        },
-        ItemWord::Constant => {
-            let valued = value_at(source, table, scope.names, next);
-            let part = valued.part;
-            ItemAnswer {
-                part,
-                name,
-                item: Item::Constant {
-                    value: valued.value,
-                },
-            }
-        }
-        ItemWord::Compconstant => {
-            let valued = value_at(source, table, scope.names, next);
-            let part = valued.part;
-            ItemAnswer {
-                part,
-                name,
-                item: Item::Compconstant {
-                    value: valued.value,
-                },
-            }
-        }
-    }
+    item_from(source, table, scope, word, name, next)
 }
 
 fn kind_of(item: Item, words: u16) -> Kind
@@ -142,7 +139,7 @@ fn lay(image: &mut [u16], at: usize, item: Item) -> u16
 }
 
 // A name and its item, declared and laid.
-fn item(
+pub fn item(
     source: &[u8],
     table: &mut [u16],
     image: &mut [u16],
@@ -176,66 +173,5 @@ fn item(
             words: words + taken,
             base,
         },
-    }
-}
-
-// Items parted by commas, each declared before the next.
-fn item_list(
-    source: &[u8],
-    table: &mut [u16],
-    image: &mut [u16],
-    scope: Scope,
-    word: ItemWord,
-    at: usize,
-) -> ScopeAnswer
-    requires { ⌜ Room scope (now table) ⌝ }
-    ensures { λ r. ⌜ Reads (Scoped scope (now (table .entry)) (now (image .entry)) (r .scope) (now (table .exit)) (now (image .exit))) (r .part)
-        (parted (now (source .entry)) kinds.comma (parseLocal (now (source .entry)) (scopeOf scope (now (table .entry))) (treeWord word) []) (parseLocal (now (source .entry)) (scopeOf scope (now (table .entry))) (treeWord word)) at) ⌝ }
-{
-    let mut current = scope;
-    let mut from = at;
-    let mut left = source.len();
-    loop {
-        let one = item(source, table, image, current, word, from);
-        let part = one.part;
-        let Part::Read { next } = part else {
-            return one;
-        };
-        let t = token_at(source, next);
-        if left == 0 {
-            return one;
-        }
-        if t.kind != COMMA {
-            return one;
-        }
-        let after = one.scope;
-        current = after;
-        from = t.next;
-        left -= 1;
-    }
-}
-
-// The same, ended by `;`.
-pub fn items(
-    source: &[u8],
-    table: &mut [u16],
-    image: &mut [u16],
-    scope: Scope,
-    word: ItemWord,
-    at: usize,
-) -> ScopeAnswer
-    requires { ⌜ Room scope (now table) ⌝ }
-    ensures { λ r. ⌜ Reads (Scoped scope (now (table .entry)) (now (image .entry)) (r .scope) (now (table .exit)) (now (image .exit))) (r .part)
-        (parseList (now (source .entry)) (parseLocal (now (source .entry)) (scopeOf scope (now (table .entry))) (treeWord word)) [] at) ⌝ }
-{
-    let list = item_list(source, table, image, scope, word, at);
-    let part = list.part;
-    let Part::Read { next } = part else {
-        return list;
-    };
-    let after = list.scope;
-    ScopeAnswer {
-        part: expect(source, SEMICOLON, next),
-        scope: after,
     }
 }

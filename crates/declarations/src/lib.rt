@@ -1,11 +1,15 @@
 // Declarations: parsed, declared and emitted in one go.
 mod arrays;
+mod frames;
+mod globals;
 mod items;
 mod limits;
+mod lists;
 mod names;
 mod procedures;
 pub mod program;
-mod sectors;
+pub mod sectors;
+mod values;
 
 use cells::Part;
 use emitter::Output;

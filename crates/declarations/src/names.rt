@@ -1,11 +1,13 @@
 // New names.
 ghost use mathlib.Core.Path.{_≡_};
+ghost use mathlib.Core.List.{[]};
 ghost use Prim.Native.Nat.{ℕ, _*_, _≤_};
 ghost use lib.ListN.{length};
 ghost use Rattle.source.specs.Tokens.{tokenAt};
 ghost use Rattle.syntax.specs.Parse.{within};
 ghost use Rattle.syntax.specs.Parse.Got.{got};
 ghost use Rattle.syntax.specs.Symbols.{sameLevel};
+ghost use Rattle.syntax.specs.Limits.{nameLimit};
 ghost use Rattle.syntax.specs.Declarations.{isTaken, newName};
 ghost use Rattle.symbols.specs.Packing.{unpack};
 ghost use Rattle.symbols.specs.Table.{levelOf};
@@ -82,4 +84,16 @@ pub fn new_name(source: &[u8], table: &[u16], scope: Scope, limit: u16, at: usiz
         part: pass_at(t, number),
         name,
     }
+}
+
+// At a declared name that takes a word: 11 where sector 0 has none left.
+pub fn name_limit(scope: Scope) -> u16
+    ensures { λ r. ⌜ r ≡ nameLimit (scopeOf scope []) ⌝ }
+{
+    if scope.level == 0 {
+        if 0o600 <= scope.words {
+            return failures::NO_GLOBAL_LEFT;
+        }
+    }
+    0
 }

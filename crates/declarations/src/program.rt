@@ -4,24 +4,21 @@ ghost use Prim.Native.Nat.{_≤_};
 ghost use lib.ListN.{length};
 ghost use Rattle.syntax.specs.Declarations.{parseDeclarations};
 ghost use Rattle.declarations.specs.Reads.{Reads};
-ghost use Rattle.declarations.specs.Scopes.{treeWord};
-ghost use Rattle.declarations.specs.States.{stateOf, Sound, Declared, Anyhow};
+ghost use Rattle.declarations.specs.States.{stateOf, Sound, Declared};
 ghost use Rattle.declarations.specs.Forms as forms;
 ghost use Rattle.declarations.specs.Procedures.{mainIn, Finished, Starts, programIn, Compiled};
 use crate::Answer;
 use crate::Ends;
-use crate::ItemWord;
 use crate::ProgramAnswer;
-use crate::Scope;
 use crate::State;
 use crate::WordFound;
 use crate::arrays::arrays;
-use crate::items::items;
+use crate::globals::global_items;
+use crate::limits::ended;
+use crate::lists::item_word;
 use crate::procedures::accumulator;
-use crate::procedures::end_of;
-use crate::procedures::ended;
-use crate::procedures::item_word;
 use crate::procedures::procedure;
+use crate::sectors::end_of;
 use crate::sectors::next_sector;
 use crate::sectors::store_pool;
 use cells::Part;
@@ -41,41 +38,6 @@ use source::kind::NEXTSECTOR;
 use source::kind::PROCEDURE;
 use source::token_at;
 use statements::statements;
-
-// A list of global items.
-fn globals(
-    source: &[u8],
-    table: &mut [u16],
-    image: &mut [u16],
-    state: State,
-    word: ItemWord,
-    at: usize,
-) -> Answer
-    requires { ⌜ Sound state × (3584 ≤ length (now table)) ⌝ }
-    ensures { λ r. ⌜ Reads (Anyhow state (now (table .entry)) (now (image .entry)) (r .state) (now (table .exit)) (now (image .exit))) (r .part) (forms.itemsIn (now (source .entry)) (treeWord word) (stateOf state (now (table .entry))) at) ⌝ }
-{
-    let scope = Scope {
-        names: state.names,
-        level: 0,
-        words: state.words,
-        base: 0o200,
-    };
-    let list = items(source, table, image, scope, word, at);
-    let part = list.part;
-    let after = list.scope;
-    let output = state.output;
-    let ends = state.ends;
-    Answer {
-        part,
-        state: State {
-            names: after.names,
-            words: after.words,
-            output,
-            ends,
-            array: state.array,
-        },
-    }
-}
 
 // Whether a declaration begins with a token of a kind.
 fn begins(kind: u16) -> bool
@@ -99,7 +61,7 @@ fn declaration(
     let kind = t.kind;
     let found = item_word(kind);
     if let WordFound::Word { word } = found {
-        return globals(source, table, image, state, word, t.next);
+        return global_items(source, table, image, state, word, t.next);
     }
     if kind == ARRAY {
         return arrays(source, table, image, state, t.next);

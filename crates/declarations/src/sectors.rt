@@ -1,13 +1,13 @@
-// `.NEXTSECTOR`.
+// The sectors: where their code ends, their pools, and `.NEXTSECTOR`.
 ghost use mathlib.Core.Path.{_≡_};
-ghost use mathlib.Core.List.{[], _∷_, _++_};
+ghost use mathlib.Core.List.{[], _∷_};
 ghost use Prim.Native.Nat.{_+_, _≤_};
 ghost use Rattle.syntax.specs.Tree.{Declaration};
 ghost use Rattle.syntax.specs.Limits.{sectorLimit, followLimit};
 ghost use Rattle.emitter.specs.Emitted.{heldBy};
 ghost use Rattle.emitter.specs.Programs.{stored};
 ghost use Rattle.declarations.specs.Reads.{Reads};
-ghost use Rattle.declarations.specs.States.{endsOf, stateOf, Sound, Moved};
+ghost use Rattle.declarations.specs.States.{endOf, withEnd, stateOf, Sound, Moved};
 ghost use Rattle.declarations.specs.Forms.{judgedIn};
 use crate::Answer;
 use crate::Ends;
@@ -40,13 +40,23 @@ pub fn store_pool(image: &mut [u16], at: u16, pool: Pool)
 // One closed sector's code end more.
 pub fn with_end(ends: Ends, code: u16) -> Ends
     requires { ⌜ ends .count ≤ 30 ⌝ }
-    ensures { λ r. ⌜ (endsOf r ≡ endsOf ends ++ (code ∷ [])) × (r .count ≡ ends .count + 1) ⌝ }
+    ensures { λ r. ⌜ r ≡ withEnd ends code ⌝ }
 {
     let count = ends.count;
     let mut next = ends;
     next.codes[count] = code;
     next.count = count + 1;
     next
+}
+
+// Where the open sector's code ends by the plan.
+pub fn end_of(plan: Ends, ends: Ends) -> u16
+    requires { ⌜ ends .count ≤ 30 ⌝ }
+    ensures { λ r. ⌜ r ≡ endOf plan (ends .count) ⌝ }
+{
+    let codes = plan.codes;
+    let sectors = ends.count;
+    codes[sectors]
 }
 
 // 12 or 13, or 13 where no sector follows.

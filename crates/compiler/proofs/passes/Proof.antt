@@ -36,8 +36,8 @@ returns c =
 enum-told : tie.Need-enum-told
 enum-told c = search needs
 
-plan-of-requires : tie.Need-plan-of-requires
-plan-of-requires c κs = came (c .before .before .before .before .before .before .before .before .before .program .ensures) (c .before .before .before .enum-told .given .1) .finished .sound .last
+with-end-requires : tie.Need-with-end-requires
+with-end-requires c κs = came (c .before .before .before .before .before .before .before .before .before .program .ensures) (c .before .before .before .enum-told .given .1) .finished .sound .ends .last
 
 clear-requires : tie.Need-clear-requires
 clear-requires c κs = search needs
@@ -63,7 +63,7 @@ returns-2 c =
     let back = told .before .before .before in
     let read = back .before .before .before in
     let start = read .before .before .before .before .before .before in
-    accepted-pass _ (start .pre .0) (read .program .result) _ (came (read .program .ensures) (told .enum-told .given .1)) (cleared .before .before .plan-of .ensures)
+    accepted-pass _ (start .pre .0) (read .program .result) _ (came (read .program .ensures) (told .enum-told .given .1)) (cleared .before .before .with-end .ensures)
     (cleared .clear .ensures ∙ ap (λ n. replicate n 0) (back .image .given .1 ∙ start .pre .1)) (c .before .before .before .before .before .program2 .ensures) (c .accepted .ensures)
 
 pub passes-spec : {M : Type 1} → statement M
@@ -79,7 +79,7 @@ passes-spec =
     same-length-2
     returns
     enum-told
-    plan-of-requires
+    with-end-requires
     clear-requires
     program-requires-2
     accepted-requires

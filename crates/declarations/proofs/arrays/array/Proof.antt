@@ -24,23 +24,16 @@ same-length c = search needs
 returns : tie.Need-returns
 returns c = Reads.fails (array-head _ _ _ (with-failed _ (c .before .before .array-head .ensures) (c .enum-told .given .1))) (c .enum-told .given .1)
 
-cast-store : tie.Need-cast-store
-cast-store c = search needs
+add-store-global : tie.Need-add-store-global
+add-store-global c = let h = c .before .before .before .before .before .before .before .before .before .before .pre .0 in omega (arith, h .top)
 
-add-store : tie.Need-add-store
-add-store c = search needs
-
-add-store-2 : tie.Need-add-store-2
-add-store-2 c = let h = c .before .before .before .before .before .before .before .before .before .before .pre .0 in omega (arith, h .top)
-
-store-requires : tie.Need-store-requires
-store-requires c κs = search needs
+store-global-requires : tie.Need-store-global-requires
+store-global-requires c κs = search needs
 
 sub-first : tie.Need-sub-first
 sub-first c =
     let head = with-read (c .before .before .before .before .before .before .before .before .array-head .ensures) (c .before .before .before .before .before .before .part .given .1) in
     let room = head-room (c .before .before .before .before .before .before .before .before .before .before .before .before .before .args .source .now) (stateOf (c .before .before .before .before .before .before .before .before .before .before .before .before .before .args .state) (c .before .before .before .before .before .before .before .before .before .before .before .before .before .args .table .now)) (c .before .before .before .before .before .before .before .before .before .before .before .before .before .args .at) head in
-    let h = c .before .before .before .before .before .before .before .before .before .before .before .before .before .pre .0 in
     omega (arith, room .space)
 
 cast-initials : tie.Need-cast-initials
@@ -68,18 +61,10 @@ same-length-3 c = search needs
 returns-2 : tie.Need-returns-2
 returns-2 c =
     let head = with-read (c .before .before .before .before .before .before .before .before .before .before .before .before .before .before .before .array-head .ensures) (c .before .before .before .before .before .before .before .before .before .before .before .before .before .part .given .1) in
-    let room = head-room (c .before .before .before .before .before .before .before .before .before .before .before .before .before .before .before .before .before .before .before .before .args .source .now) (stateOf (c .before .before .before .before .before .before .before .before .before .before .before .before .before .before .before .before .before .before .before .before .args .state) (c .before .before .before .before .before .before .before .before .before .before .before .before .before .before .before .before .before .before .before .before .args .table .now)) (c .before .before .before .before .before .before .before .before .before .before .before .before .before .before .before .before .before .before .before .before .args .at) head in
-    let h = c .before .before .before .before .before .before .before .before .before .before .before .before .before .before .before .before .before .before .before .before .pre .0 in
     Reads.fails (array-values _ _ _ head (failed-as (c .before .before .before .before .initials .ensures) (c .enum-told3 .given .1))) (c .enum-told3 .given .1)
 
-declare-requires : tie.Need-declare-requires
-declare-requires c κs = search needs
-
-add-t23 : tie.Need-add-t23
-add-t23 c = let h = c .before .before .before .before .before .before .before .before .before .before .before .before .before .before .before .before .before .before .before .before .before .before .before .before .before .before .pre .0 in omega (arith, h .few)
-
-add-t25 : tie.Need-add-t25
-add-t25 c = let h = c .before .before .before .before .before .before .before .before .before .before .before .before .before .before .before .before .before .before .before .before .before .before .before .before .before .before .pre .0 in omega (arith, h .few, h .each)
+declare-global-requires : tie.Need-declare-global-requires
+declare-global-requires c κs = let h = c .before .before .before .before .before .before .before .before .before .before .before .before .before .before .before .before .before .before .before .before .before .pre .0 in (h .few, h .each)
 
 same-length-4 : tie.Need-same-length-4
 same-length-4 c = search needs
@@ -89,13 +74,13 @@ same-length-5 c = search needs
 
 returns-3 : tie.Need-returns-3
 returns-3 c =
-    let head = with-read (c .before .before .before .before .before .before .before .before .before .before .before .before .before .before .before .before .before .before .before .before .before .array-head .ensures) (c .before .before .before .before .before .before .before .before .before .before .before .before .before .before .before .before .before .before .before .part .given .1) in
-    let room = head-room (c .before .before .before .before .before .before .before .before .before .before .before .before .before .before .before .before .before .before .before .before .before .before .before .before .before .before .args .source .now) (stateOf (c .before .before .before .before .before .before .before .before .before .before .before .before .before .before .before .before .before .before .before .before .before .before .before .before .before .before .args .state) (c .before .before .before .before .before .before .before .before .before .before .before .before .before .before .before .before .before .before .before .before .before .before .before .before .before .before .args .table .now)) (c .before .before .before .before .before .before .before .before .before .before .before .before .before .before .before .before .before .before .before .before .before .before .before .before .before .before .args .at) head in
-    let h = c .before .before .before .before .before .before .before .before .before .before .before .before .before .before .before .before .before .before .before .before .before .before .before .before .before .before .pre .0 in
-    let r = came (c .before .before .before .before .before .before .before .before .before .before .initials .ensures) (c .before .before .before .before .before .before .enum-told2 .given .1) in
-    let held = held-length (c .before .before .before .before .before .before .before .before .before .before .before .before .before .before .before .before .before .before .before .before .before .before .before .before .before .before .args .state .names) (c .before .before .before .before .before .before .before .before .before .before .before .before .before .before .before .before .before .before .before .before .before .before .before .before .before .before .args .table .now) (let l = c .before .before .before .before .before .before .before .before .before .before .before .before .before .before .before .before .before .before .before .before .before .before .before .before .before .before .pre .1 in omega (arith, h .few, l)) in
-    Reads.read (array-on _ _ _ head (r .parsed)) (c .before .before .before .before .before .before .enum-told2 .given .1)
-    (array-declared _ _ _ _ _ _ _ _ _ h (c .before .before .before .before .before .before .before .before .before .before .before .before .before .before .before .before .before .before .before .before .before .before .before .before .before .before .pre .1) room held (c .before .before .before .before .declare .kept .0) (c .before .before .before .before .declare .ensures) (c .before .before .before .before .before .before .before .before .before .before .before .before .before .before .before .store .ensures) (r .does))
+    let head = with-read (c .before .before .before .before .before .before .before .before .before .before .before .before .before .before .before .before .before .before .before .array-head .ensures) (c .before .before .before .before .before .before .before .before .before .before .before .before .before .before .before .before .before .part .given .1) in
+    let room = head-room (c .before .before .before .before .before .before .before .before .before .before .before .before .before .before .before .before .before .before .before .before .before .before .before .before .args .source .now) (stateOf (c .before .before .before .before .before .before .before .before .before .before .before .before .before .before .before .before .before .before .before .before .before .before .before .before .args .state) (c .before .before .before .before .before .before .before .before .before .before .before .before .before .before .before .before .before .before .before .before .before .before .before .before .args .table .now)) (c .before .before .before .before .before .before .before .before .before .before .before .before .before .before .before .before .before .before .before .before .before .before .before .before .args .at) head in
+    let h = c .before .before .before .before .before .before .before .before .before .before .before .before .before .before .before .before .before .before .before .before .before .before .before .before .pre .0 in
+    let r = came (c .before .before .before .before .before .before .before .before .initials .ensures) (c .before .before .before .before .enum-told2 .given .1) in
+    let held = held-length (c .before .before .before .before .before .before .before .before .before .before .before .before .before .before .before .before .before .before .before .before .before .before .before .before .args .state .names) (c .before .before .before .before .before .before .before .before .before .before .before .before .before .before .before .before .before .before .before .before .before .before .before .before .args .table .now) (let l = c .before .before .before .before .before .before .before .before .before .before .before .before .before .before .before .before .before .before .before .before .before .before .before .before .pre .1 in omega (arith, h .few, l)) in
+    Reads.read (array-on _ _ _ head (r .parsed)) (c .before .before .before .before .enum-told2 .given .1)
+    (rw (c .before .before .declare-global .ensures .1) (array-declared _ _ _ _ _ _ _ _ _ h (c .before .before .before .before .before .before .before .before .before .before .before .before .before .before .before .before .before .before .before .before .before .before .before .before .pre .1) room held (c .before .before .declare-global .kept .0) (c .before .before .declare-global .ensures .0) (c .before .before .before .before .before .before .before .before .before .before .before .before .before .store-global .ensures) (r .does)))
 
 pub array-spec : {M : Type 1} → statement M
 array-spec =
@@ -106,10 +91,8 @@ array-spec =
     enum-told
     same-length
     returns
-    cast-store
-    add-store
-    add-store-2
-    store-requires
+    add-store-global
+    store-global-requires
     sub-first
     cast-initials
     initials-requires
@@ -118,9 +101,7 @@ array-spec =
     same-length-2
     same-length-3
     returns-2
-    declare-requires
-    add-t23
-    add-t25
+    declare-global-requires
     same-length-4
     same-length-5
     returns-3)

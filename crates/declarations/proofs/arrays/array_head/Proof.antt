@@ -1,17 +1,13 @@
 -- `arrays::array_head` meets its contract. Assumes nothing.
-use mathlib.Core.Path.{_∙_}
 use native.Mathlib.Omega.{arith}
-use Rattle.declarations.proofs.Arraying.{global-name, head-name, head-size, head-closing}
+use Rattle.declarations.proofs.Arraying.{head-name, head-size, head-closing}
 use Rattle.declarations.proofs.Reading.{with-read, with-failed, failed-with}
 use borrow.Author.Needs.{needs}
 use Rattle.declarations.proofs.arrays.array_head.Statement.{statement}
 use Rattle.declarations.proofs.arrays.array_head.Tie as tie
 
-name-limit-requires : tie.Need-name-limit-requires
-name-limit-requires c κs = search needs
-
-new-name-requires : tie.Need-new-name-requires
-new-name-requires c κs = let h = c .before .before .before .pre .0 in let l = c .before .before .before .pre .1 in omega (arith, h .few, l)
+global-name-requires : tie.Need-global-name-requires
+global-name-requires c κs = let h = c .before .before .pre .0 in let l = c .before .before .pre .1 in omega (arith, h .few, l)
 
 enum-known-part : tie.Need-enum-known-part
 enum-known-part c = search needs
@@ -20,7 +16,7 @@ enum-told : tie.Need-enum-told
 enum-told c = search needs
 
 returns : tie.Need-returns
-returns c = failed-with _ (c .enum-told .given .1) (head-name _ _ _ (with-failed _ (c .before .before .before .new-name .ensures ∙ global-name (c .before .before .before .before .before .before .before .args .source .now) (c .before .before .before .before .before .before .before .args .state) (c .before .before .before .before .before .before .before .args .table .now) _ (c .before .before .before .before .name-limit .ensures)) (c .enum-told .given .1)))
+returns c = failed-with _ (c .enum-told .given .1) (head-name _ _ _ (with-failed _ (c .before .before .before .global-name .ensures) (c .enum-told .given .1)))
 
 bracketed-requires : tie.Need-bracketed-requires
 bracketed-requires c κs = search needs
@@ -32,7 +28,7 @@ enum-told-2 : tie.Need-enum-told-2
 enum-told-2 c = search needs
 
 returns-2 : tie.Need-returns-2
-returns-2 c = failed-with _ (c .enum-told2 .given .1) (head-size _ _ _ (with-read (c .before .before .before .before .before .before .before .new-name .ensures ∙ global-name (c .before .before .before .before .before .before .before .before .before .before .before .args .source .now) (c .before .before .before .before .before .before .before .before .before .before .before .args .state) (c .before .before .before .before .before .before .before .before .before .before .before .args .table .now) _ (c .before .before .before .before .before .before .before .before .name-limit .ensures)) (c .before .before .before .before .part .given .1)) (with-failed _ (c .before .before .bracketed .ensures) (c .enum-told2 .given .1)))
+returns-2 c = failed-with _ (c .enum-told2 .given .1) (head-size _ _ _ (with-read (c .before .before .before .before .before .before .before .global-name .ensures) (c .before .before .before .before .part .given .1)) (with-failed _ (c .before .before .bracketed .ensures) (c .enum-told2 .given .1)))
 
 size-of-requires : tie.Need-size-of-requires
 size-of-requires c κs = search needs
@@ -41,14 +37,13 @@ closing-requires : tie.Need-closing-requires
 closing-requires c κs = search needs
 
 returns-3 : tie.Need-returns-3
-returns-3 c = head-closing _ _ _ (with-read (c .before .before .before .before .before .before .before .before .before .before .before .new-name .ensures ∙ global-name (c .before .before .before .before .before .before .before .before .before .before .before .before .before .before .before .args .source .now) (c .before .before .before .before .before .before .before .before .before .before .before .before .before .before .before .args .state) (c .before .before .before .before .before .before .before .before .before .before .before .before .before .before .before .args .table .now) _ (c .before .before .before .before .before .before .before .before .before .before .before .before .name-limit .ensures)) (c .before .before .before .before .before .before .before .before .part .given .1)) _ _ _ _ (c .before .before .size-of .ensures) (with-read (c .before .before .before .before .before .before .bracketed .ensures) (c .before .before .before .before .part2 .given .1)) (c .closing .ensures)
+returns-3 c = head-closing _ _ _ (with-read (c .before .before .before .before .before .before .before .before .before .before .before .global-name .ensures) (c .before .before .before .before .before .before .before .before .part .given .1)) _ _ _ _ (c .before .before .size-of .ensures) (with-read (c .before .before .before .before .before .before .bracketed .ensures) (c .before .before .before .before .part2 .given .1)) (c .closing .ensures)
 
 pub array-head-spec : {M : Type 1} → statement M
 array-head-spec =
     tie.close
     (tie.spec
-    name-limit-requires
-    new-name-requires
+    global-name-requires
     enum-known-part
     enum-told
     returns

@@ -1,18 +1,13 @@
 -- `procedures::heading` meets its contract. Assumes nothing.
-use mathlib.Core.Path.{_∙_}
 use native.Mathlib.Omega.{arith}
-use Rattle.declarations.proofs.Arraying.{global-name}
 use Rattle.declarations.proofs.Reading.{with-read, with-failed, failed-with, part-failed, expected}
 use Rattle.declarations.proofs.Proceeding.{heading-name, heading-semicolon, heading-begin}
 use borrow.Author.Needs.{needs}
 use Rattle.declarations.proofs.procedures.heading.Statement.{statement}
 use Rattle.declarations.proofs.procedures.heading.Tie as tie
 
-name-limit-requires : tie.Need-name-limit-requires
-name-limit-requires c κs = search needs
-
-new-name-requires : tie.Need-new-name-requires
-new-name-requires c κs = let h = c .before .before .before .pre .0 in let l = c .before .before .before .pre .1 in omega (arith, h .few, l)
+global-name-requires : tie.Need-global-name-requires
+global-name-requires c κs = let h = c .before .before .pre .0 in let l = c .before .before .pre .1 in omega (arith, h .few, l)
 
 enum-known-part : tie.Need-enum-known-part
 enum-known-part c = search needs
@@ -21,7 +16,7 @@ enum-told : tie.Need-enum-told
 enum-told c = search needs
 
 returns : tie.Need-returns
-returns c = failed-with _ (c .enum-told .given .1) (heading-name _ _ _ (with-failed _ (c .before .before .before .new-name .ensures ∙ global-name (c .before .before .before .before .before .before .before .args .source .now) (c .before .before .before .before .before .before .before .args .state) (c .before .before .before .before .before .before .before .args .table .now) _ (c .before .before .before .before .name-limit .ensures)) (c .enum-told .given .1)))
+returns c = failed-with _ (c .enum-told .given .1) (heading-name _ _ _ (with-failed _ (c .before .before .before .global-name .ensures) (c .enum-told .given .1)))
 
 expect-requires : tie.Need-expect-requires
 expect-requires c κs = search needs
@@ -33,20 +28,19 @@ enum-told-2 : tie.Need-enum-told-2
 enum-told-2 c = search needs
 
 returns-2 : tie.Need-returns-2
-returns-2 c = failed-with _ (c .enum-told2 .given .1) (heading-semicolon _ _ _ (with-read (c .before .before .before .before .before .before .before .new-name .ensures ∙ global-name (c .before .before .before .before .before .before .before .before .before .before .before .args .source .now) (c .before .before .before .before .before .before .before .before .before .before .before .args .state) (c .before .before .before .before .before .before .before .before .before .before .before .args .table .now) _ (c .before .before .before .before .before .before .before .before .name-limit .ensures)) (c .before .before .before .before .part .given .1)) (part-failed _ (c .before .before .expect .ensures) (c .enum-told2 .given .1)))
+returns-2 c = failed-with _ (c .enum-told2 .given .1) (heading-semicolon _ _ _ (with-read (c .before .before .before .before .before .before .before .global-name .ensures) (c .before .before .before .before .part .given .1)) (part-failed _ (c .before .before .expect .ensures) (c .enum-told2 .given .1)))
 
 expect-requires-2 : tie.Need-expect-requires-2
 expect-requires-2 c κs = search needs
 
 returns-3 : tie.Need-returns-3
-returns-3 c = heading-begin _ _ _ (with-read (c .before .before .before .before .before .before .before .before .before .new-name .ensures ∙ global-name (c .before .before .before .before .before .before .before .before .before .before .before .before .before .args .source .now) (c .before .before .before .before .before .before .before .before .before .before .before .before .before .args .state) (c .before .before .before .before .before .before .before .before .before .before .before .before .before .args .table .now) _ (c .before .before .before .before .before .before .before .before .before .before .name-limit .ensures)) (c .before .before .before .before .before .before .part .given .1)) (expected _ _ _ (c .before .before .before .before .expect .ensures) (c .before .before .part2 .given .1)) (c .expect2 .ensures)
+returns-3 c = heading-begin _ _ _ (with-read (c .before .before .before .before .before .before .before .before .before .global-name .ensures) (c .before .before .before .before .before .before .part .given .1)) (expected _ _ _ (c .before .before .before .before .expect .ensures) (c .before .before .part2 .given .1)) (c .expect2 .ensures)
 
 pub heading-spec : {M : Type 1} → statement M
 heading-spec =
     tie.close
     (tie.spec
-    name-limit-requires
-    new-name-requires
+    global-name-requires
     enum-known-part
     enum-told
     returns

@@ -3,10 +3,10 @@ use mathlib.Core.Path.{refl, _∙_}
 use native.Mathlib.Omega.{arith}
 use Rattle.declarations.specs.Reads.{Reads}
 use Rattle.declarations.specs.States.{stateOf}
-use borrow.Author.Needs.{needs}
 use Rattle.declarations.proofs.Naming.{held-length}
 use Rattle.declarations.proofs.Reading.{with-read, with-failed, came, failed-as}
 use Rattle.declarations.proofs.Proceeding.{heading-room, procedure-heading, procedure-body, procedure-ended, procedure-on, procedure-limit, procedure-declared, end-limit}
+use borrow.Author.Needs.{needs}
 use Rattle.declarations.proofs.procedures.procedure.Statement.{statement}
 use Rattle.declarations.proofs.procedures.procedure.Tie as tie
 
@@ -26,7 +26,7 @@ returns : tie.Need-returns
 returns c = Reads.fails (procedure-heading _ _ _ _ (with-failed _ (c .before .before .before .heading .ensures) (c .enum-told .given .1))) (c .enum-told .given .1)
 
 end-of-requires : tie.Need-end-of-requires
-end-of-requires c κs = c .before .before .before .before .before .before .before .before .before .before .before .before .pre .0 .last
+end-of-requires c κs = c .before .before .before .before .before .before .before .before .before .before .before .before .pre .0 .ends .last
 
 body-requires : tie.Need-body-requires
 body-requires c κs =
@@ -52,14 +52,11 @@ same-length-3 c = c .before .before .before .before .before .before .before .bod
 
 returns-2 : tie.Need-returns-2
 returns-2 c =
-    let h = c .before .before .before .before .before .before .before .before .before .before .before .before .before .before .before .before .before .before .before .before .before .pre .0 in
-    let s = c .before .before .before .before .before .before .before .before .before .before .before .before .before .before .before .before .before .before .before .before .before .args .state in
-    let table = c .before .before .before .before .before .before .before .before .before .before .before .before .before .before .before .before .before .before .before .before .before .args .table .now in
     let head = with-read (c .before .before .before .before .before .before .before .before .before .before .before .before .before .before .before .before .heading .ensures) (c .before .before .before .before .before .before .before .before .before .before .before .before .before .part .given .1) in
     Reads.fails (procedure-body _ _ _ _ head (failed-as (c .before .before .before .before .before .before .before .body .ensures) (c .enum-told2 .given .1))) (c .enum-told2 .given .1)
 
 ended-requires : tie.Need-ended-requires
-ended-requires c κs = c .before .before .before .before .before .before .before .before .before .before .before .before .before .before .before .before .before .before .before .before .before .before .pre .0 .last
+ended-requires c κs = c .before .before .before .before .before .before .before .before .before .before .before .before .before .before .before .before .before .before .before .before .before .before .pre .0 .ends .last
 
 enum-told-3 : tie.Need-enum-told-3
 enum-told-3 c = search needs
@@ -76,26 +73,17 @@ same-length-5 c = c .before .before .before .before .before .before .before .bef
 returns-3 : tie.Need-returns-3
 returns-3 c =
     let h = c .before .before .before .before .before .before .before .before .before .before .before .before .before .before .before .before .before .before .before .before .before .before .before .before .before .pre .0 in
-    let s = c .before .before .before .before .before .before .before .before .before .before .before .before .before .before .before .before .before .before .before .before .before .before .before .before .before .args .state in
-    let table = c .before .before .before .before .before .before .before .before .before .before .before .before .before .before .before .before .before .before .before .before .before .before .before .before .before .args .table .now in
     let head = with-read (c .before .before .before .before .before .before .before .before .before .before .before .before .before .before .before .before .before .before .before .before .heading .ensures) (c .before .before .before .before .before .before .before .before .before .before .before .before .before .before .before .before .before .part .given .1) in
     let r = came (c .before .before .before .before .before .before .before .before .before .before .before .body .ensures) (c .before .before .before .before .part2 .given .1) in
-    let ends = c .before .before .before .before .before .before .before .before .before .before .before .before .end-of .ensures .1 in
-    let l = procedure-limit (c .before .before .before .before .before .before .before .before .before .before .before .before .before .before .before .before .before .before .before .before .before .before .before .before .before .args .accumulator) h ends (r .does) in
+    let l = procedure-limit (c .before .before .before .before .before .before .before .before .before .before .before .before .before .before .before .before .before .before .before .before .before .before .before .before .before .args .accumulator) h (r .does) in
     let e = c .before .before .ended .ensures in
     Reads.fails (procedure-ended _ _ _ _ head (r .parsed) _ l e (c .enum-told4 .given .1)) (c .enum-told4 .given .1)
 
-declare-requires : tie.Need-declare-requires
-declare-requires c κs = search needs
-
-add-t32 : tie.Need-add-t32
-add-t32 c = let h = c .before .before .before .before .before .before .before .before .before .before .before .before .before .before .before .before .before .before .before .before .before .before .before .before .before .before .before .before .before .pre .0 in omega (arith, h .few)
-
-add-t27 : tie.Need-add-t27
-add-t27 c = let h = c .before .before .before .before .before .before .before .before .before .before .before .before .before .before .before .before .before .before .before .before .before .before .before .before .before .before .before .before .before .pre .0 in omega (arith, h .few, h .each)
+declare-global-requires : tie.Need-declare-global-requires
+declare-global-requires c κs = let h = c .before .before .before .before .before .before .before .before .before .before .before .before .before .before .before .before .before .before .before .before .before .before .before .before .before .before .pre .0 in (h .few, h .each)
 
 same-length-6 : tie.Need-same-length-6
-same-length-6 c = c .before .before .declare .kept .0 ∙ c .before .before .before .before .before .before .before .before .before .before .before .before .before .before .before .body .kept .1 .0
+same-length-6 c = c .before .before .declare-global .kept .0 ∙ c .before .before .before .before .before .before .before .before .before .before .before .before .before .before .before .body .kept .1 .0
 
 same-length-7 : tie.Need-same-length-7
 same-length-7 c = c .before .before .before .before .before .before .before .before .before .before .before .before .before .before .before .body .kept .1 .1 .0
@@ -109,12 +97,11 @@ returns-4 c =
     let few = heading-room (c .before .before .before .before .before .before .before .before .before .before .before .before .before .before .before .before .before .before .before .before .before .before .before .before .before .before .before .before .before .args .source .now) (stateOf s table .scope) (c .before .before .before .before .before .before .before .before .before .before .before .before .before .before .before .before .before .before .before .before .before .before .before .before .before .before .before .before .before .args .at) head in
     let held = held-length (s .names) table (let l = c .before .before .before .before .before .before .before .before .before .before .before .before .before .before .before .before .before .before .before .before .before .before .before .before .before .before .before .before .before .pre .1 in omega (arith, h .few, l)) in
     let r = came (c .before .before .before .before .before .before .before .before .before .before .before .before .before .before .before .body .ensures) (c .before .before .before .before .before .before .before .before .part2 .given .1) in
-    let ends = c .before .before .before .before .before .before .before .before .before .before .before .before .before .before .before .before .end-of .ensures .1 in
-    let l = procedure-limit (c .before .before .before .before .before .before .before .before .before .before .before .before .before .before .before .before .before .before .before .before .before .before .before .before .before .before .before .before .before .args .accumulator) h ends (r .does) in
+    let l = procedure-limit (c .before .before .before .before .before .before .before .before .before .before .before .before .before .before .before .before .before .before .before .before .before .before .before .before .before .before .before .before .before .args .accumulator) h (r .does) in
     let e = c .before .before .before .before .before .before .ended .ensures in
     let z = end-limit _ _ _ _ e (c .before .before .before .before .enum-told3 .given .1) in
     Reads.read (procedure-on _ _ _ _ head (r .parsed) _ l e (c .before .before .before .before .enum-told3 .given .1)) (c .before .before .before .before .enum-told3 .given .1)
-    (procedure-declared _ h ends (r .does) _ _ _ refl (c .before .before .before .before .before .before .before .before .before .before .before .before .before .before .before .before .end-of .ensures .0) (c .before .before .before .before .before .before .before .before .before .before .before .before .before .before .before .before .before .before .before .before .before .before .before .before .before .before .before .before .before .pre .1) held few (c .before .before .before .before .before .before .before .before .before .before .before .before .before .before .before .body .kept .1 .0) (c .before .before .declare .kept .0) (c .before .before .declare .ensures) z)
+    (rw (c .before .before .declare-global .ensures .1) (procedure-declared _ h (r .does) _ _ _ refl (c .before .before .before .before .before .before .before .before .before .before .before .before .before .before .before .before .end-of .ensures) (c .before .before .before .before .before .before .before .before .before .before .before .before .before .before .before .before .before .before .before .before .before .before .before .before .before .before .before .before .before .pre .1) held few (c .before .before .before .before .before .before .before .before .before .before .before .before .before .before .before .body .kept .1 .0) (c .before .before .declare-global .kept .0) (c .before .before .declare-global .ensures .0) z))
 
 pub procedure-spec : {M : Type 1} → statement M
 procedure-spec =
@@ -138,9 +125,7 @@ procedure-spec =
     same-length-4
     same-length-5
     returns-3
-    declare-requires
-    add-t32
-    add-t27
+    declare-global-requires
     same-length-6
     same-length-7
     returns-4)

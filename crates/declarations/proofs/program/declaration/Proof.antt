@@ -15,18 +15,18 @@ item-word-requires c κs = search needs
 enum-known-found : tie.Need-enum-known-found
 enum-known-found c = search needs
 
-globals-requires : tie.Need-globals-requires
-globals-requires c κs = c .before .before .before .before .before .before .before .before .before .pre
+global-items-requires : tie.Need-global-items-requires
+global-items-requires c κs = c .before .before .before .before .before .before .before .before .before .pre
 
 same-length : tie.Need-same-length
-same-length c = c .before .before .before .before .globals .kept .1 .0
+same-length c = c .before .before .before .before .global-items .kept .1 .0
 
 same-length-2 : tie.Need-same-length-2
-same-length-2 c = c .before .before .before .before .globals .kept .1 .1 .0
+same-length-2 c = c .before .before .before .before .global-items .kept .1 .1 .0
 
 returns : tie.Need-returns
 unfolding treeFound
-returns c = reads-to (in-items _ _ _ _ (rw (c .before .before .before .before .before .before .before .before .found .given .1) at (c .before .before .before .before .before .before .before .before .before .before .item-word .ensures))) (λ _ d. by-plan (c .before .before .before .before .before .before .before .before .before .before .before .before .before .before .args .plan) d) (c .before .before .before .before .globals .ensures)
+returns c = reads-to (in-items _ _ _ _ (rw (c .before .before .before .before .before .before .before .before .found .given .1) at (c .before .before .before .before .before .before .before .before .before .before .item-word .ensures))) (λ _ d. by-plan (c .before .before .before .before .before .before .before .before .before .before .before .before .before .before .args .plan) d) (c .before .before .before .before .global-items .ensures)
 
 enum-told : tie.Need-enum-told
 enum-told c = search needs
@@ -83,7 +83,7 @@ declaration-spec =
     (tie.spec
     item-word-requires
     enum-known-found
-    globals-requires
+    global-items-requires
     same-length
     same-length-2
     returns

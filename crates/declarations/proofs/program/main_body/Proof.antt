@@ -8,7 +8,7 @@ use Rattle.declarations.proofs.program.main_body.Statement.{statement}
 use Rattle.declarations.proofs.program.main_body.Tie as tie
 
 end-of-requires : tie.Need-end-of-requires
-end-of-requires c κs = c .before .before .before .before .before .pre .0 .last
+end-of-requires c κs = c .before .before .before .before .before .pre .0 .ends .last
 
 statements-requires : tie.Need-statements-requires
 statements-requires c κs = search needs
@@ -29,7 +29,7 @@ emit-generic-requires : tie.Need-emit-generic-requires
 emit-generic-requires c κs = search needs
 
 ended-requires : tie.Need-ended-requires
-ended-requires c κs = c .before .before .before .before .before .before .before .before .before .before .before .before .before .before .before .before .before .before .pre .0 .last
+ended-requires c κs = c .before .before .before .before .before .before .before .before .before .before .before .before .before .before .before .before .before .before .pre .0 .ends .last
 
 enum-told-2 : tie.Need-enum-told-2
 enum-told-2 c = search needs
@@ -44,10 +44,9 @@ returns-2 : tie.Need-returns-2
 returns-2 c =
     let h = c .before .before .before .before .before .before .before .before .before .before .before .before .before .before .before .before .before .before .before .before .before .pre .0 in
     let q = compiled (c .before .before .before .before .before .before .before .before .before .before .before .before .before .statements .ensures) (c .before .before .before .before .before .before .before .before .part .given .1) in
-    let ends = c .before .before .before .before .before .before .before .before .before .before .before .before .before .before .before .end-of .ensures .1 in
     let lays = main-lays _ _ (q .does) (c .before .before .before .before .before .emit-generic .ensures) in
     let last = c .before .before .before .before .before .emit-generic .result in
-    let l = main-limit (c .before .before .before .before .before .before .before .before .before .before .before .before .before .before .before .before .before .before .before .before .before .args .table .now) last (q .tree) h ends lays in
+    let l = main-limit (c .before .before .before .before .before .before .before .before .before .before .before .before .before .before .before .before .before .before .before .before .before .args .table .now) last (q .tree) h lays in
     Reads.fails (main-ended _ _ _ (q .parsed) _ l (c .before .before .ended .ensures) (c .enum-told3 .given .1)) (c .enum-told3 .given .1)
 
 store-pool-requires : tie.Need-store-pool-requires
@@ -60,13 +59,12 @@ returns-3 : tie.Need-returns-3
 returns-3 c =
     let h = c .before .before .before .before .before .before .before .before .before .before .before .before .before .before .before .before .before .before .before .before .before .before .before .before .before .before .pre .0 in
     let q = compiled (c .before .before .before .before .before .before .before .before .before .before .before .before .before .before .before .before .before .before .statements .ensures) (c .before .before .before .before .before .before .before .before .before .before .before .before .before .part .given .1) in
-    let ends = c .before .before .before .before .before .before .before .before .before .before .before .before .before .before .before .before .before .before .before .before .end-of .ensures .1 in
     let lays = main-lays _ _ (q .does) (c .before .before .before .before .before .before .before .before .before .before .emit-generic .ensures) in
     let last = c .before .before .before .before .before .before .before .before .before .before .emit-generic .result in
-    let l = main-limit (c .before .before .before .before .before .before .before .before .before .before .before .before .before .before .before .before .before .before .before .before .before .before .before .before .before .before .args .table .now) last (q .tree) h ends lays in
+    let l = main-limit (c .before .before .before .before .before .before .before .before .before .before .before .before .before .before .before .before .before .before .before .before .before .before .before .before .before .before .args .table .now) last (q .tree) h lays in
     let told = c .before .before .before .before .before .enum-told2 .given .1 in
     let e = c .before .before .before .before .before .before .before .ended .ensures in
-    Reads.read (main-on _ _ _ (q .parsed) _ l e told) told (main-finished (c .before .before .before .before .before .before .before .before .before .before .before .before .before .before .before .before .before .before .before .before .before .before .before .before .before .before .args .table .now) last (q .tree) h ends lays _ (c .before .before .before .before .before .before .before .before .before .before .before .before .before .before .before .before .before .before .before .before .end-of .ensures .0) (end-limit _ _ _ _ e told) (c .before .before .store-pool .ensures))
+    Reads.read (main-on _ _ _ (q .parsed) _ l e told) told (main-finished (c .before .before .before .before .before .before .before .before .before .before .before .before .before .before .before .before .before .before .before .before .before .before .before .before .before .before .args .table .now) last (q .tree) h lays _ (c .before .before .before .before .before .before .before .before .before .before .before .before .before .before .before .before .before .before .before .before .end-of .ensures) (end-limit _ _ _ _ e told) (c .before .before .store-pool .ensures))
 
 pub main-body-spec : {M : Type 1} → statement M
 main-body-spec =

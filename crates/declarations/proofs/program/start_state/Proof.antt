@@ -1,5 +1,5 @@
 -- `program::start_state` meets its contract. Assumes nothing.
-use mathlib.Core.Path.{ap, ap₂}
+use mathlib.Core.Path.{refl, ap, ap₂}
 use native.Mathlib.Omega.{arith}
 use lib.ListN.{length}
 use mathlib.Core.List.{[]}
@@ -18,7 +18,7 @@ returns c =
     let l = ap length e in
     record {
       state = λ table. ap₂ (λ x y. record { scope = record { names = x; level = Level.outer; words = 0 }; code = 0o1000; pool = y; ends = []; array = 16383 }) (none-alive table) e;
-      sound = record { few = omega arith; each = omega arith; last = omega arith; used = omega (arith, l); fits = omega (arith, l); top = omega arith };
+      sound = record { few = omega arith; each = omega arith; ends = record { last = omega arith; long = refl; spare = refl }; used = omega (arith, l); fits = omega (arith, l); top = omega arith };
     }
 
 pub start-state-spec : {M : Type 1} → statement M

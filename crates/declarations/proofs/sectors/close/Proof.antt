@@ -1,6 +1,5 @@
 -- `sectors::close` meets its contract. Assumes nothing.
-use mathlib.Core.Path.{_≡_, refl}
-use lib.ListN.{length}
+use mathlib.Core.Path.{refl}
 use Rattle.declarations.proofs.Stating.{next-moved}
 use borrow.Author.Needs.{needs}
 use Rattle.declarations.proofs.sectors.close.Statement.{statement}
@@ -10,7 +9,7 @@ store-pool-requires : tie.Need-store-pool-requires
 store-pool-requires c κs = search needs
 
 with-end-requires : tie.Need-with-end-requires
-with-end-requires c κs = c .before .before .before .before .before .before .before .before .pre .0 .last
+with-end-requires c κs = c .before .before .before .before .before .before .before .before .pre .0 .ends .last
 
 cast-t13 : tie.Need-cast-t13
 cast-t13 c = search needs
@@ -29,9 +28,7 @@ same-length c = search needs
 
 returns : tie.Need-returns
 returns c =
-    let long : length (c .before .before .before .before .before .before .before .before .before .before .args .state .ends .codes) ≡ 32 = search needs in
-    let e = c .before .with-end .ensures in
-    next-moved _ _ _ _ _ (c .before .before .before .before .before .before .before .before .before .before .pre .0) long (c .before .before .before .before .before .before .before .before .before .before .pre .1) (e .0) (e .1) refl (c .empty-pool .ensures) (c .before .before .before .before .before .store-pool .ensures)
+    next-moved _ _ _ _ _ (c .before .before .before .before .before .before .before .before .before .before .pre .0) (c .before .before .before .before .before .before .before .before .before .before .pre .1) (c .before .with-end .ensures) refl (c .empty-pool .ensures) (c .before .before .before .before .before .store-pool .ensures)
 
 pub close-spec : {M : Type 1} → statement M
 close-spec =

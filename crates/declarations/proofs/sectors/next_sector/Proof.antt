@@ -1,14 +1,13 @@
 -- `sectors::next_sector` meets its contract. Assumes nothing.
-use mathlib.Core.Path.{_≡_, sym, _∙_}
+use mathlib.Core.Path.{sym, _∙_}
 use mathlib.Core.List.{[]}
-use lib.ListN.{length}
 use Rattle.syntax.specs.Tree.{Declaration}
 use Rattle.syntax.specs.Limits.{declarationLimit, sectorLimit}
 use Rattle.declarations.specs.Reads.{Reads}
 use Rattle.declarations.specs.States.{stateOf}
 use Rattle.declarations.specs.Forms.{judgedIn}
 use Rattle.declarations.proofs.Limiting.{judged-failed, judged-read, judged-limit, follow-fits, next-judged}
-use Rattle.declarations.proofs.Stating.{ends-length}
+use Rattle.declarations.proofs.Plans.{ends-length}
 use borrow.Author.Needs.{needs}
 use Rattle.declarations.proofs.sectors.next_sector.Statement.{statement}
 use Rattle.declarations.proofs.sectors.next_sector.Tie as tie
@@ -31,8 +30,7 @@ returns c = Reads.fails (next-judged _ _ _ (c .before .before .before .next-limi
 
 close-requires : tie.Need-close-requires
 close-requires c κs =
-    let long : length (c .before .before .before .before .before .before .before .args .state .ends .codes) ≡ 32 = search needs in
-    let ends = ends-length (c .before .before .before .before .before .before .before .args .state .ends) long (c .before .before .before .before .before .before .before .pre .last) in
+    let ends = ends-length (c .before .before .before .before .before .before .before .pre .ends) in
     let z = judged-limit _ _ _ Declaration.nextSector (c .before .before .before .judged .ensures) (c .before .enum-told .given .1) in
     (c .before .before .before .before .before .before .before .pre, follow-fits (stateOf (c .before .before .before .before .before .before .before .args .state) []) ends (sectorLimit (stateOf (c .before .before .before .before .before .before .before .args .state) [])) (sym (c .before .before .before .before .next-limit .ensures) ∙ z))
 

@@ -1,8 +1,5 @@
 -- `sectors::with_end` meets its contract. Assumes nothing.
-use mathlib.Core.Path.{_≡_, refl}
-use lib.ListN.{length}
-use native.Mathlib.Omega.{arith}
-use Rattle.declarations.proofs.Stating.{one-end}
+use mathlib.Core.Path.{refl}
 use borrow.Author.Needs.{needs}
 use Rattle.declarations.proofs.sectors.with_end.Statement.{statement}
 use Rattle.declarations.proofs.sectors.with_end.Tie as tie
@@ -17,9 +14,7 @@ add-next : tie.Need-add-next
 add-next c = search needs
 
 returns : tie.Need-returns
-returns c =
-    let long : length (c .args .ends .codes) ≡ 32 = search needs in
-    (one-end (c .args .ends .codes) (c .args .ends .count) _ (omega arith), refl)
+returns c = refl
 
 pub with-end-spec : {M : Type 1} → statement M
 with-end-spec = tie.close (tie.spec mul-next element-write-next add-next returns)

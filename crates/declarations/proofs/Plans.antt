@@ -1,0 +1,46 @@
+-- The code ends: those that count, and zeros after them. Assumes nothing.
+use Prim.Native.Nat.{ℕ, zero, suc, _+_, _-_, _≤_}
+use mathlib.Core.Path.{_≡_, refl, sym, ap, _∙_}
+use mathlib.Core.List.{List, [], _∷_, _++_, append-assoc}
+use native.Mathlib.Numerals.{add-one}
+use native.Mathlib.Omega.{arith}
+use lib.ListN.{length, getD, set, replicate, length-set}
+use lib.Seq.{length-take-le, take-suc-set, set-at}
+use Rattle.declarations.specs.declared.Ends.{Ends}
+use Rattle.declarations.specs.States.{endsOf, endOf, withEnd, Closed}
+
+-- zeros after a list are what stands past its end
+zeros : (m k : ℕ) → _≡_ {A = ℕ} (getD (replicate m 0) k 0) 0
+zeros zero k = refl
+zeros (suc m) zero = refl
+zeros (suc m) (suc k) = zeros m k
+
+past : (xs : List ℕ) (m k : ℕ) → getD (xs ++ replicate m 0) k 0 ≡ getD xs k 0
+past [] m k = zeros m k
+past (x ∷ xs) m zero = refl
+past (x ∷ xs) m (suc k) = past xs m k
+
+module _ {e : Ends} (h : Closed e) where
+  pub ends-length : length (endsOf e) ≡ e .count
+  ends-length = let l = h .long in let n = h .last in length-take-le (e .count) (e .codes) (omega (arith, l, n))
+
+  module _ (code : ℕ) where
+    pub one-end : endsOf (withEnd e code) ≡ endsOf e ++ (code ∷ [])
+    one-end = let l = h .long in let n = h .last in rw add-one (take-suc-set (e .codes) (e .count) code (omega (arith, l, n)))
+
+    -- zeros after the new end too
+    one-more : withEnd e code .codes ≡ (endsOf e ++ (code ∷ [])) ++ replicate (32 - (e .count + 1)) 0
+    one-more =
+        let n = h .last in
+        let q : 32 - e .count ≡ suc (32 - (e .count + 1)) = omega (arith, n) in
+        let so-far : e .codes ≡ endsOf e ++ (0 ∷ replicate (32 - (e .count + 1)) 0) = h .spare ∙ ap (λ m. endsOf e ++ replicate m 0) q in
+        ap (λ x. set x (e .count) code) so-far ∙ set-at (endsOf e) 0 (replicate (32 - (e .count + 1)) 0) code (e .count) ends-length
+        ∙ sym (append-assoc (endsOf e) (code ∷ []) (replicate (32 - (e .count + 1)) 0))
+
+    pub one-closed : e .count + 1 ≤ 30 → Closed (withEnd e code)
+    one-closed few =
+        record { last = few; long = length-set (e .codes) (e .count) code ∙ h .long; spare = one-more ∙ ap (λ x. x ++ replicate (32 - (e .count + 1)) 0) (sym one-end) }
+
+    -- where each sector's code ends
+    pub each-end : (k : ℕ) → endOf (withEnd e code) k ≡ getD (endsOf e ++ (code ∷ [])) k 0
+    each-end k = ap (λ x. getD x k 0) one-more ∙ past (endsOf e ++ (code ∷ [])) (32 - (e .count + 1)) k

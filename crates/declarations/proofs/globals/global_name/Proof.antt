@@ -1,0 +1,28 @@
+-- `globals::global_name` meets its contract. Assumes nothing.
+use mathlib.Core.Path.{ap, _∙_}
+use native.Mathlib.Omega.{arith}
+use Rattle.declarations.proofs.Arraying.{global-name}
+use borrow.Author.Needs.{needs}
+use Rattle.declarations.proofs.globals.global_name.Statement.{statement}
+use Rattle.declarations.proofs.globals.global_name.Tie as tie
+
+global-scope-requires : tie.Need-global-scope-requires
+global-scope-requires c κs = search needs
+
+name-limit-requires : tie.Need-name-limit-requires
+name-limit-requires c κs = search needs
+
+new-name-requires : tie.Need-new-name-requires
+new-name-requires c κs = let e = ap (λ s. s .names) (c .before .global-scope .ensures) in let p = c .before .before .before .before .pre in omega (arith, e, p)
+
+returns : tie.Need-returns
+returns c = c .new-name .ensures ∙ global-name (c .before .before .before .before .before .args .source .now) (c .before .before .before .before .before .args .state) (c .before .before .before .before .before .args .table .now) _ (c .before .before .global-scope .ensures) (c .before .name-limit .ensures)
+
+pub global-name-spec : {M : Type 1} → statement M
+global-name-spec =
+    tie.close
+    (tie.spec
+    global-scope-requires
+    name-limit-requires
+    new-name-requires
+    returns)

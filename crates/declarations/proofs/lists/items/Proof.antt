@@ -1,0 +1,56 @@
+-- `lists::items` meets its contract. Assumes nothing.
+use borrow.Author.Needs.{needs}
+use Rattle.syntax.specs.Declarations.{parseList}
+use Rattle.declarations.specs.Reads.{Reads}
+use Rattle.declarations.proofs.Reading.{then-got, then-failed, came, failed-as, ended-by}
+use Rattle.declarations.proofs.lists.items.Statement.{statement}
+use Rattle.declarations.proofs.lists.items.Tie as tie
+
+item-list-requires : tie.Need-item-list-requires
+item-list-requires c κs = search needs
+
+enum-known-part : tie.Need-enum-known-part
+enum-known-part c = search needs
+
+enum-told : tie.Need-enum-told
+enum-told c = search needs
+
+same-length : tie.Need-same-length
+same-length c = search needs
+
+same-length-2 : tie.Need-same-length-2
+same-length-2 c = search needs
+
+returns : tie.Need-returns
+unfolding parseList
+returns c = Reads.fails (then-failed _ (failed-as (c .before .before .before .before .before .before .item-list .ensures) (c .enum-told .given .1))) (c .enum-told .given .1)
+
+expect-requires : tie.Need-expect-requires
+expect-requires c κs = search needs
+
+same-length-3 : tie.Need-same-length-3
+same-length-3 c = search needs
+
+same-length-4 : tie.Need-same-length-4
+same-length-4 c = search needs
+
+returns-2 : tie.Need-returns-2
+unfolding parseList
+returns-2 c =
+    let r = came (c .before .before .before .before .before .before .before .before .before .item-list .ensures) (c .before .before .before .part .given .1) in
+    ended-by _ _ (then-got _ (r .parsed)) (c .expect .ensures) (r .does)
+
+pub items-spec : {M : Type 1} → statement M
+items-spec =
+    tie.close
+    (tie.spec
+    item-list-requires
+    enum-known-part
+    enum-told
+    same-length
+    same-length-2
+    returns
+    expect-requires
+    same-length-3
+    same-length-4
+    returns-2)
