@@ -92,14 +92,13 @@ fn declarations(
     let mut left = source.len();
     loop {
         let t = token_at(source, from);
-        let kind = t.kind;
         if left == 0 {
             return Answer {
                 part: Part::Read { next: from },
                 state: current,
             };
         }
-        if !begins(kind) {
+        if !begins(t.kind) {
             return Answer {
                 part: Part::Read { next: from },
                 state: current,
