@@ -240,10 +240,10 @@ module _ (s : State) (t u image between after : List ℕ) (name : Packed) (size 
   array-declared h long room held same d e i =
       let few = room .names in
       let names = held-more (s .names) t u name 0 (Kind.Array (s .words) size) (omega arith) same d ∙ ap (λ x. (unpack name, x) ∷ tables.heldBy (s .names) t) (array-entry Level.outer (record { number = s .words; size = size })) in
-      record {
+      λ _. record {
         state = ap (λ x. record { scope = record { names = x; level = Level.outer; words = s .words + 1 }; code = s .output .code; pool = poolOf s; ends = endsOf (s .ends); array = s .array - size }) names;
         sound = record { few = omega arith; each = omega (arith, h .each); ends = h .ends; used = h .used; fits = h .fits; top = omega (arith, h .top) };
-        laid = λ _. i ∙ ap (λ x. stored x (s .array - size) (padded size values)) e;
+        laid = i ∙ ap (λ x. stored x (s .array - size) (padded size values)) e;
       }
 
 -- ---- Values stored

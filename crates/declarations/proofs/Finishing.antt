@@ -68,10 +68,10 @@ pub globals-declared : (s : State) {t u image after : List ℕ} {inner : code.Sc
 unfolding tables.levelOf
 globals-declared s {t} {u} {image} {after} {inner} {items} h p =
     let scope = ap (λ l. record { names = tables.heldBy (inner .names) u; level = l; words = inner .words }) (level-outer (inner .level) (p .level)) ∙ p .scope in
-    record {
+    λ ends. record {
       state = ap (λ x. states.withScope (stateOf s t) x) scope ∙ sym (items-state (stateOf s t) items);
       sound = record { few = p .room .few; each = p .room .each; ends = h .ends; used = h .used; fits = h .fits; top = h .top };
-      laid = λ ends. p .laid ∙ sym (items-emitted ends (stateOf s t) items image);
+      laid = p .laid ∙ sym (items-emitted ends (stateOf s t) items image);
     }
 
 -- ---- The main body
@@ -156,7 +156,7 @@ module _ (source : List ℕ) where
     program-main {ds} {m} h i = then-got _ e ∙ then-got _ h ∙ main-def source ds m ∙ ap (λ st. andThen (mainIn source st m) (λ main k. got (record { declarations = ds; main = main }) k)) (sym i)
 
 module _ {plan : Ends} {s₀ s : State} {t image t' image₁ image₂ : List ℕ} {output : Output} {ds : List Declaration} {main : Stmts} where
-  pub program-compiled : stateOf s₀ t ≡ states.start → Declared plan s₀ t image s t' image₁ ds → Finished plan s t' image₁ output image₂ main → Compiled plan image s output t' image₂ (record { declarations = ds; main = main })
+  pub program-compiled : stateOf s₀ t ≡ states.start → Declared (endOf plan) s₀ t image s t' image₁ ds → Finished plan s t' image₁ output image₂ main → Compiled plan image s output t' image₂ (record { declarations = ds; main = main })
   unfolding states.stateAfter emitProgram
   program-compiled e p q =
       let state = p .state ∙ ap (λ x. foldl states.step x ds) e in

@@ -246,7 +246,7 @@ module _ {s : State} {t image v image' : List ℕ} {pool : ℕ} {name : Name} {o
   pub procedure-declared : (plan : Ends) (packed : Packed) (w : List ℕ) → name ≡ unpack packed → pool ≡ endOf plan (s .ends .count) → 3584 ≤ length t → length (tables.heldBy (s .names) t) ≡ s .names
       → length (stateOf s t .scope .names) < 512 → length v ≡ length t → length w ≡ length v → tables.Declared (s .names) v packed 0 (Kind.Procedure (s .words) accumulator) w
       → sectorNumber (output .code + length (emitted.heldBy (output .pool))) (s .ends .count) (s .array) ≡ 0
-      → Declared plan s t image (withGlobal s output (s .array)) w image' (Declaration.procedure name accumulator (inside .0) (inside .1) ∷ [])
+      → Declared (endOf plan) s t image (withGlobal s output (s .array)) w image' (Declaration.procedure name accumulator (inside .0) (inside .1) ∷ [])
   unfolding emitDeclarations emitDeclaration states.step declare wordsTaken tables.levelWord
   procedure-declared plan packed w same poolIs long held few kept keeps d z =
       let x = procedure-exact z in

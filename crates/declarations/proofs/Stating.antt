@@ -15,7 +15,7 @@ use Rattle.emitter.specs.Programs.{stored, emitDeclaration, emitDeclarations}
 use Rattle.declarations.specs.declared.Ends.{Ends}
 use Rattle.declarations.specs.declared.State.{State}
 use Rattle.emitter.specs.declared.Output.{Output}
-use Rattle.declarations.specs.States.{endsOf, endOf, withEnd, poolOf, stateOf, Sound, Declared, Anyhow, Moved}
+use Rattle.declarations.specs.States.{endsOf, withEnd, poolOf, stateOf, Sound, Declared, Moved}
 use Rattle.declarations.proofs.Plans.{ends-length, one-end, one-closed}
 use Rattle.declarations.proofs.Scoping.{fold-append, stored-append}
 
@@ -44,33 +44,17 @@ unfolding emitDeclarations
 emit-append ends st [] es image = refl
 emit-append ends st (d ∷ ds) es image = emit-append ends (states.step st d) ds es (emitDeclaration (ends (length (st .ends))) st d image)
 
-pub none-declared : (plan : Ends) (s : State) (t i : List ℕ) → Sound s → Declared plan s t i s t i []
+pub none-declared : (ends : ℕ → ℕ) (s : State) (t i : List ℕ) → Sound s → Declared ends s t i s t i []
 unfolding emitDeclarations
-none-declared plan s t i h = record { state = refl; sound = h; laid = refl }
+none-declared ends s t i h = record { state = refl; sound = h; laid = refl }
 
-module _ {plan : Ends} {s s' s'' : State} {t t' t'' i i' i'' : List ℕ} {xs ys : List Declaration} where
-  pub more-declared : Declared plan s t i s' t' i' xs → Declared plan s' t' i' s'' t'' i'' ys → Declared plan s t i s'' t'' i'' (xs ++ ys)
+module _ {ends : ℕ → ℕ} {s s' s'' : State} {t t' t'' i i' i'' : List ℕ} {xs ys : List Declaration} where
+  pub more-declared : Declared ends s t i s' t' i' xs → Declared ends s' t' i' s'' t'' i'' ys → Declared ends s t i s'' t'' i'' (xs ++ ys)
   more-declared p q =
       record {
         state = q .state ∙ ap (λ x. foldl states.step x ys) (p .state) ∙ sym (fold-append states.step (stateOf s t) xs ys);
         sound = q .sound;
-        laid = q .laid ∙ ap₂ (λ x y. emitDeclarations (endOf plan) x ys y) (p .state) (p .laid) ∙ sym (emit-append (endOf plan) (stateOf s t) xs ys i);
-      }
-
-pub by-plan : (plan : Ends) {s s' : State} {t t' i i' : List ℕ} {xs : List Declaration} → Anyhow s t i s' t' i' xs → Declared plan s t i s' t' i' xs
-by-plan plan p = record { state = p .state; sound = p .sound; laid = p .laid (endOf plan) }
-
-pub none-anyhow : (s : State) (t i : List ℕ) → Sound s → Anyhow s t i s t i []
-unfolding emitDeclarations
-none-anyhow s t i h = record { state = refl; sound = h; laid = λ ends. refl }
-
-module _ {s s' s'' : State} {t t' t'' i i' i'' : List ℕ} {xs ys : List Declaration} where
-  pub more-anyhow : Anyhow s t i s' t' i' xs → Anyhow s' t' i' s'' t'' i'' ys → Anyhow s t i s'' t'' i'' (xs ++ ys)
-  more-anyhow p q =
-      record {
-        state = q .state ∙ ap (λ x. foldl states.step x ys) (p .state) ∙ sym (fold-append states.step (stateOf s t) xs ys);
-        sound = q .sound;
-        laid = λ ends. q .laid ends ∙ ap₂ (λ x y. emitDeclarations ends x ys y) (p .state) (p .laid ends) ∙ sym (emit-append ends (stateOf s t) xs ys i);
+        laid = q .laid ∙ ap₂ (λ x y. emitDeclarations ends x ys y) (p .state) (p .laid) ∙ sym (emit-append ends (stateOf s t) xs ys i);
       }
 
 -- ---- `.NEXTSECTOR`
@@ -85,10 +69,10 @@ next-moved s image image' ends output h few e code pool laid =
     let n = ap length pool in
     let count : ends .count ≡ s .ends .count + 1 = ap (λ x. x .count) e in
     record {
-      at = λ table. record {
+      at = λ table _. record {
         state = next-state table c pool (ap endsOf e ∙ one-end (h .ends) (s .output .code));
         sound = record { few = h .few; each = h .each; ends = rw e (one-closed (h .ends) (s .output .code) few); used = omega (arith, n, code, count); fits = omega (arith, n, code, count); top = h .top };
-        laid = λ _. laid;
+        laid = laid;
       };
     }
   where

@@ -59,17 +59,15 @@ pub record Sound (s : State) : Type 0 where
   pub fits : s .output .code + length (poolOf s) ≤ 512 * (s .ends .count + 2)
   pub top : s .array ≤ 16383
 
--- declarations: the state is the definition's, and their words are on the image
-pub record Declared (plan : Ends) (s : State) (table image : List ℕ) (s' : State) (table' image' : List ℕ) (new : List Declaration) : Type 0 where
+-- declarations, with the sectors' code ends: the state is the definition's, and their words are on the image
+pub record Declared (ends : ℕ → ℕ) (s : State) (table image : List ℕ) (s' : State) (table' image' : List ℕ) (new : List Declaration) : Type 0 where
   pub state : stateOf s' table' ≡ foldl states.step (stateOf s table) new
   pub sound : Sound s'
-  pub laid : image' ≡ emitDeclarations (endOf plan) (stateOf s table) new image
+  pub laid : image' ≡ emitDeclarations ends (stateOf s table) new image
 
--- the same whatever the plan
-pub record Anyhow (s : State) (table image : List ℕ) (s' : State) (table' image' : List ℕ) (new : List Declaration) : Type 0 where
-  pub state : stateOf s' table' ≡ foldl states.step (stateOf s table) new
-  pub sound : Sound s'
-  pub laid : (ends : ℕ → ℕ) → image' ≡ emitDeclarations ends (stateOf s table) new image
+-- the same wherever the sectors' code ends
+abbrev pub Anyhow : State → List ℕ → List ℕ → State → List ℕ → List ℕ → List Declaration → Type 0
+Anyhow s table image s' table' image' new = (ends : ℕ → ℕ) → Declared ends s table image s' table' image' new
 
 -- the same whatever the table
 pub record Moved (s : State) (image : List ℕ) (s' : State) (image' : List ℕ) (new : List Declaration) : Type 0 where

@@ -5,7 +5,7 @@ ghost use lib.ListN.{length};
 ghost use Rattle.symbols.specs.Packing.{unpack};
 ghost use Rattle.cells.specs.Answers.{gotWith};
 ghost use Rattle.declarations.specs.Reads.{Reads};
-ghost use Rattle.declarations.specs.States.{stateOf, Sound, Declared};
+ghost use Rattle.declarations.specs.States.{endOf, stateOf, Sound, Declared};
 ghost use Rattle.declarations.specs.Forms.{headingIn, bodyIn, procedureIn, accumulatorIn};
 ghost use Rattle.declarations.specs.Procedures.{Bodied};
 use crate::Answer;
@@ -98,7 +98,7 @@ pub fn procedure(
     at: usize,
 ) -> Answer
     requires { ⌜ Sound state × (3584 ≤ length (now table)) ⌝ }
-    ensures { λ r. ⌜ Reads (Declared plan state (now (table .entry)) (now (image .entry)) (r .state) (now (table .exit)) (now (image .exit))) (r .part) (procedureIn (now (source .entry)) (stateOf state (now (table .entry))) accumulator at) ⌝ }
+    ensures { λ r. ⌜ Reads (Declared (endOf plan) state (now (table .entry)) (now (image .entry)) (r .state) (now (table .exit)) (now (image .exit))) (r .part) (procedureIn (now (source .entry)) (stateOf state (now (table .entry))) accumulator at) ⌝ }
 {
     let named = heading(source, table, state, at);
     let part = named.part;
@@ -137,7 +137,7 @@ pub fn accumulator(
     at: usize,
 ) -> Answer
     requires { ⌜ Sound state × (3584 ≤ length (now table)) ⌝ }
-    ensures { λ r. ⌜ Reads (Declared plan state (now (table .entry)) (now (image .entry)) (r .state) (now (table .exit)) (now (image .exit))) (r .part) (accumulatorIn (now (source .entry)) (stateOf state (now (table .entry))) at) ⌝ }
+    ensures { λ r. ⌜ Reads (Declared (endOf plan) state (now (table .entry)) (now (image .entry)) (r .state) (now (table .exit)) (now (image .exit))) (r .part) (accumulatorIn (now (source .entry)) (stateOf state (now (table .entry))) at) ⌝ }
 {
     let part = expect(source, PROCEDURE, at);
     let Part::Read { next } = part else {

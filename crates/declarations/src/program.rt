@@ -4,7 +4,7 @@ ghost use Prim.Native.Nat.{_≤_};
 ghost use lib.ListN.{length};
 ghost use Rattle.syntax.specs.Declarations.{parseDeclarations};
 ghost use Rattle.declarations.specs.Reads.{Reads};
-ghost use Rattle.declarations.specs.States.{stateOf, Sound, Declared};
+ghost use Rattle.declarations.specs.States.{endOf, stateOf, Sound, Declared};
 ghost use Rattle.declarations.specs.Forms as forms;
 ghost use Rattle.declarations.specs.Procedures.{mainIn, Finished, Starts, programIn, Compiled};
 use crate::Answer;
@@ -56,7 +56,7 @@ fn declaration(
     t: Token,
 ) -> Answer
     requires { ⌜ Sound state × (3584 ≤ length (now table)) ⌝ }
-    ensures { λ r. ⌜ Reads (Declared plan state (now (table .entry)) (now (image .entry)) (r .state) (now (table .exit)) (now (image .exit))) (r .part) (forms.declarationIn (now (source .entry)) (stateOf state (now (table .entry))) t) ⌝ }
+    ensures { λ r. ⌜ Reads (Declared (endOf plan) state (now (table .entry)) (now (image .entry)) (r .state) (now (table .exit)) (now (image .exit))) (r .part) (forms.declarationIn (now (source .entry)) (stateOf state (now (table .entry))) t) ⌝ }
 {
     let kind = t.kind;
     let found = item_word(kind);
@@ -85,7 +85,7 @@ fn declarations(
     at: usize,
 ) -> Answer
     requires { ⌜ Starts state × (3584 ≤ length (now table)) ⌝ }
-    ensures { λ r. ⌜ Reads (Declared plan state (now (table .entry)) (now (image .entry)) (r .state) (now (table .exit)) (now (image .exit))) (r .part) (parseDeclarations (now (source .entry)) at) ⌝ }
+    ensures { λ r. ⌜ Reads (Declared (endOf plan) state (now (table .entry)) (now (image .entry)) (r .state) (now (table .exit)) (now (image .exit))) (r .part) (parseDeclarations (now (source .entry)) at) ⌝ }
 {
     let mut current = state;
     let mut from = at;

@@ -13,7 +13,7 @@ use borrow.Author.Needs.{needs}
 use Rattle.declarations.specs.Reads.{Reads}
 use native.Mathlib.Omega.{arith}
 use Rattle.declarations.proofs.Reading.{came, failed-as, Listing, list-first, list-failed, list-zero, list-last, list-next}
-use Rattle.declarations.proofs.Stating.{none-anyhow, more-anyhow}
+use Rattle.declarations.proofs.Stating.{none-declared, more-declared}
 use Rattle.declarations.proofs.Arraying.{array-got, array-failed}
 use Rattle.declarations.proofs.arrays.array_list.Statement.{statement}
 use Rattle.declarations.proofs.arrays.array_list.Tie as tie
@@ -32,10 +32,10 @@ abbrev μ-loop : tie.MeasureT-loop
 μ-loop source table₀ image₀ at current₀ from₀ left₀ table image current from left = left
 
 loop-holds : tie.Need-loop-holds Inv-loop μ-loop
-loop-holds c = record { done = []; listing = list-first _ _ _ _ _; declared = none-anyhow _ _ _ (c .before .before .before .pre .0); long = refl; wide = refl }
+loop-holds c = record { done = []; listing = list-first _ _ _ _ _; declared = λ ends. none-declared ends _ _ _ (c .before .before .before .pre .0); long = refl; wide = refl }
 
 array-requires : tie.Need-array-requires Inv-loop μ-loop
-array-requires c κs = let l = c .before .before .loop .inv in let p = c .before .before .before .before .before .before .pre .1 in (l .declared .sound, omega (arith, p, l .long))
+array-requires c κs = let l = c .before .before .loop .inv in let p = c .before .before .before .before .before .before .pre .1 in (l .declared (λ _. 0) .sound, omega (arith, p, l .long))
 
 enum-known-part : tie.Need-enum-known-part Inv-loop μ-loop
 enum-known-part c = search needs
@@ -52,7 +52,7 @@ same-length-2 c = c .before .before .before .before .before .before .array .kept
 returns : tie.Need-returns Inv-loop μ-loop
 returns c =
     let l = c .before .before .before .before .before .before .before .before .before .loop .inv in
-    Reads.fails (list-failed (l .listing) (array-failed _ _ _ _ (l .declared .state) (failed-as (c .before .before .before .before .before .before .array .ensures) (c .enum-told .given .1)))) (c .enum-told .given .1)
+    Reads.fails (list-failed (l .listing) (array-failed _ _ _ _ (l .declared (λ _. 0) .state) (failed-as (c .before .before .before .before .before .before .array .ensures) (c .enum-told .given .1)))) (c .enum-told .given .1)
 
 token-at-requires : tie.Need-token-at-requires Inv-loop μ-loop
 token-at-requires c κs = search needs
@@ -67,7 +67,7 @@ returns-2 : tie.Need-returns-2 Inv-loop μ-loop
 returns-2 c =
     let l = c .before .before .before .before .before .before .before .before .before .before .before .before .loop .inv in
     let r = came (c .before .before .before .before .before .before .before .before .before .array .ensures) (c .before .before .before .part .given .1) in
-    Reads.read (list-zero (l .listing) (array-got _ _ _ _ (l .declared .state) (r .parsed)) (c .if1 .taken)) (c .before .before .before .part .given .1) (more-anyhow (l .declared) (r .does))
+    Reads.read (list-zero (l .listing) (array-got _ _ _ _ (l .declared (λ _. 0) .state) (r .parsed)) (c .if1 .taken)) (c .before .before .before .part .given .1) (λ ends. more-declared (l .declared ends) (r .does ends))
 
 same-length-5 : tie.Need-same-length-5 Inv-loop μ-loop
 same-length-5 c = c .before .before .before .before .before .before .before .before .before .before .before .array .kept .1 .0 ∙ c .before .before .before .before .before .before .before .before .before .before .before .before .before .before .loop .inv .long
@@ -79,7 +79,7 @@ returns-3 : tie.Need-returns-3 Inv-loop μ-loop
 returns-3 c =
     let l = c .before .before .before .before .before .before .before .before .before .before .before .before .before .before .loop .inv in
     let r = came (c .before .before .before .before .before .before .before .before .before .before .before .array .ensures) (c .before .before .before .before .before .part .given .1) in
-    Reads.read (list-last (l .listing) (array-got _ _ _ _ (l .declared .state) (r .parsed)) (c .before .before .before .token-at .ensures) (c .if2 .taken)) (c .before .before .before .before .before .part .given .1) (more-anyhow (l .declared) (r .does))
+    Reads.read (list-last (l .listing) (array-got _ _ _ _ (l .declared (λ _. 0) .state) (r .parsed)) (c .before .before .before .token-at .ensures) (c .if2 .taken)) (c .before .before .before .before .before .part .given .1) (λ ends. more-declared (l .declared ends) (r .does ends))
 
 sub-left : tie.Need-sub-left Inv-loop μ-loop
 sub-left c = search needs
@@ -93,8 +93,8 @@ loop-again c =
     let r = came (c .before .before .before .before .before .before .before .before .before .before .before .before .array .ensures) (c .before .before .before .before .before .before .part .given .1) in
     record {
       done = _;
-      listing = list-next (l .listing) (array-got _ _ _ _ (l .declared .state) (r .parsed)) (c .before .before .before .before .token-at .ensures) (c .before .before .before .if1 .left) (c .before .if2 .left);
-      declared = more-anyhow (l .declared) (r .does);
+      listing = list-next (l .listing) (array-got _ _ _ _ (l .declared (λ _. 0) .state) (r .parsed)) (c .before .before .before .before .token-at .ensures) (c .before .before .before .if1 .left) (c .before .if2 .left);
+      declared = λ ends. more-declared (l .declared ends) (r .does ends);
       long = c .before .before .before .before .before .before .before .before .before .before .before .before .array .kept .1 .0 ∙ l .long;
       wide = c .before .before .before .before .before .before .before .before .before .before .before .before .array .kept .1 .1 .0 ∙ l .wide;
     }

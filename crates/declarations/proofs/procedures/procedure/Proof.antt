@@ -101,7 +101,7 @@ returns-4 c =
     let e = c .before .before .before .before .before .before .ended .ensures in
     let z = end-limit _ _ _ _ e (c .before .before .before .before .enum-told3 .given .1) in
     Reads.read (procedure-on _ _ _ _ head (r .parsed) _ l e (c .before .before .before .before .enum-told3 .given .1)) (c .before .before .before .before .enum-told3 .given .1)
-    (rw (c .before .before .declare-global .ensures .1) (procedure-declared _ h (r .does) _ _ _ refl (c .before .before .before .before .before .before .before .before .before .before .before .before .before .before .before .before .end-of .ensures) (c .before .before .before .before .before .before .before .before .before .before .before .before .before .before .before .before .before .before .before .before .before .before .before .before .before .before .before .before .before .pre .1) held few (c .before .before .before .before .before .before .before .before .before .before .before .before .before .before .before .body .kept .1 .0) (c .before .before .declare-global .kept .0) (c .before .before .declare-global .ensures .0) z))
+    (rw (c .before .before .declare-global .ensures .1) (procedure-declared _ h (r .does) (c .before .before .before .before .before .before .before .before .before .before .before .before .before .before .before .before .before .before .before .before .before .before .before .before .before .before .before .before .before .args .plan) _ _ refl (c .before .before .before .before .before .before .before .before .before .before .before .before .before .before .before .before .end-of .ensures) (c .before .before .before .before .before .before .before .before .before .before .before .before .before .before .before .before .before .before .before .before .before .before .before .before .before .before .before .before .before .pre .1) held few (c .before .before .before .before .before .before .before .before .before .before .before .before .before .before .before .body .kept .1 .0) (c .before .before .declare-global .kept .0) (c .before .before .declare-global .ensures .0) z))
 
 pub procedure-spec : {M : Type 1} → statement M
 procedure-spec =

@@ -9,7 +9,7 @@ use Rattle.syntax.specs.State.{step, stateAfter}
 use Rattle.syntax.specs.Declarations.{parseDeclarations}
 use Rattle.declarations.specs.declared.Ends.{Ends}
 use Rattle.declarations.specs.declared.State.{State}
-use Rattle.declarations.specs.States.{Declared}
+use Rattle.declarations.specs.States.{endOf, Declared}
 use borrow.Author.Needs.{needs}
 use Rattle.declarations.specs.Reads.{Reads}
 use native.Mathlib.Omega.{arith}
@@ -22,7 +22,7 @@ use Rattle.declarations.proofs.program.declarations.Tie as tie
 record Inv (source table₀ image₀ : List ℕ) (plan : Ends) (at : ℕ) (state₀ : State) (table image : List ℕ) (state : State) (from left : ℕ) : Type 0 where
   done : List Declaration
   turning : Turning (declarationMore source) (parseDeclarations source at) done from left
-  declared : Declared plan state₀ table₀ image₀ state table image done
+  declared : Declared (endOf plan) state₀ table₀ image₀ state table image done
   long : length table ≡ length table₀
   wide : length image ≡ length image₀
 
