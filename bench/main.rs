@@ -54,9 +54,11 @@ fn refusals() {
     for length in [0, 13, 15] {
         refused(&vec![0; length]);
     }
-    for place in [0, 1, 3] {
+    let words = [0, 1, 3].map(|place| (place, 65_536));
+    let flags = [2, 4, 5, 6, 7, 8].map(|place| (place, 2));
+    for (place, number) in words.into_iter().chain(flags) {
         let mut words = [0; 14];
-        words[place] = 65_536;
+        words[place] = number;
         refused(&words);
     }
 }

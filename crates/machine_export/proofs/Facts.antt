@@ -6,7 +6,7 @@ use mathlib.Core.List.{List}
 use lib.Dec.{eqb, leb}
 use lib.ListN.{getD, length}
 use borrow.Author.Tests.{eqb-true, leb-true}
-use Rattle.machine_export.specs.Export.{fitsOf, Fitting}
+use Rattle.machine_export.specs.Export.{upTo, wordsFit, fitsOf, Fitting}
 
 first : (s t : Bool) → cond s t false ≡ true → s ≡ true
 first true t e = refl
@@ -17,13 +17,14 @@ second true t e = e
 second false t e = cc
 
 pub fitting : (words : List ℕ) → fitsOf words ≡ true → Fitting words
-unfolding fitsOf
+unfolding fitsOf upTo
 fitting words e =
-    let b1 = second (eqb (length words) 14) _ e in
-    let b2 = second (leb (getD words 0 0) 65535) _ b1 in
+    let w = first (wordsFit words) _ (second (eqb (length words) 14) _ e) in
+    let v = second (leb (getD words 0 0) 65535) _ w in
+    let u = second (leb (getD words 1 0) 65535) _ v in
     record {
       count = eqb-true _ _ (first _ _ e);
-      a = leb-true _ _ (first _ _ b1);
-      b = leb-true _ _ (first _ _ b2);
-      p = leb-true _ _ (second (leb (getD words 1 0) 65535) _ b2);
+      a = leb-true _ _ (first _ _ w);
+      b = leb-true _ _ (first _ _ v);
+      p = leb-true _ _ (first _ _ u);
     }

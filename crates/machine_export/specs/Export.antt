@@ -1,9 +1,9 @@
 -- A run for other languages: the machine, the clock and the request as fourteen numbers, in this order.
--- Before the run: 0 A, 1 B, 2 C, 3 P, 4 to 7 the sense switches, 8 halted, 9 the clock, 10 the budget.
+-- Before the run: 0 A, 1 B, 2 C, 3 P, 4 to 7 the sense switches, 8 halted, 9 the clock, 10 the budget. C, a switch and halted are 0 or 1.
 -- After it also: 11 the outcome, 12 the failure's number or 0, 13 the steps made. Assumes nothing.
 use mathlib.Core.Path.{_≡_}
 use Prim.Native.Nat.{ℕ, suc, _≤_}
-use mathlib.Core.Bool.{Bool, false, cond, not}
+use mathlib.Core.Bool.{Bool, true, false, cond}
 use mathlib.Core.List.{List, [], _∷_}
 use lib.Dec.{eqb, leb}
 use lib.ListN.{getD, set, length}
@@ -18,23 +18,30 @@ use Rattle.machine.specs.Failure.{failureOf}
 use Rattle.machine.specs.State.{state}
 use Rattle.machine.specs.Run.{Ran, runDef, reportOf}
 
--- fourteen numbers of which A, B and P are words; any others are refused, and nothing changes
-unfoldable pub fitsOf : List ℕ → Bool
-fitsOf words =
-    cond (eqb (length words) 14)
-    (cond (leb (getD words 0 0) 65535) (cond (leb (getD words 1 0) 65535) (leb (getD words 3 0) 65535) false) false)
-    false
+-- whether the numbers at these places are at most a limit
+unfoldable pub upTo : ℕ → List ℕ → List ℕ → Bool
+upTo limit [] words = true
+upTo limit (i ∷ is) words = cond (leb (getD words i 0) limit) (upTo limit is words) false
 
--- the same as facts
+abbrev pub wordsFit : List ℕ → Bool
+wordsFit words = upTo 65535 (0 ∷ 1 ∷ 3 ∷ []) words
+
+abbrev pub flagsFit : List ℕ → Bool
+flagsFit words = upTo 1 (2 ∷ 4 ∷ 5 ∷ 6 ∷ 7 ∷ 8 ∷ []) words
+
+-- fourteen numbers of which A, B and P are words, and C, the switches and halted 0 or 1; any others are refused, and nothing changes
+unfoldable pub fitsOf : List ℕ → Bool
+fitsOf words = cond (eqb (length words) 14) (cond (wordsFit words) (flagsFit words) false) false
+
+-- of this as facts, what is asked of words that a machine is read from
 pub record Fitting (words : List ℕ) : Type 0 where
   pub count : length words ≡ 14
   pub a : getD words 0 0 ≤ 65535
   pub b : getD words 1 0 ≤ 65535
   pub p : getD words 3 0 ≤ 65535
 
--- a flag is set by any number but 0
 abbrev pub flagOf : List ℕ → ℕ → Bool
-flagOf words i = not (eqb (getD words i 0) 0)
+flagOf words i = eqb (getD words i 0) 1
 
 unfoldable pub machineOf : List ℕ → Machine
 machineOf words =

@@ -5,7 +5,7 @@ ghost use lib.ListN.{length};
 ghost use Rattle.word.specs.Arithmetic.{bit};
 ghost use Rattle.machine.specs.Failure.{failureOf};
 ghost use Rattle.machine.specs.Clock.{dueOf};
-ghost use Rattle.machine_export.specs.Export.{Fitting, fitsOf, flagOf, machineOf, outcomeOf, withMachine, withReport, imageAfter, wordsAfter};
+ghost use Rattle.machine_export.specs.Export.{wordsFit, flagsFit, Fitting, fitsOf, flagOf, machineOf, outcomeOf, withMachine, withReport, imageAfter, wordsAfter};
 use effect::Registers;
 use effect::Switches;
 use machine::Clock;
@@ -44,27 +44,65 @@ const STEPS: usize = 13;
 
 const COUNT: usize = 14;
 
-// Whether the numbers are a machine's: all there, with words where words are due.
-fn fits(words: &[u32]) -> bool
-    ensures { λ r. ⌜ r ≡ fitsOf (now (words .entry)) ⌝ }
+fn words_fit(words: &[u32]) -> bool
+    requires { ⌜ length (now words) ≡ 14 ⌝ }
+    ensures { λ r. ⌜ r ≡ wordsFit (now (words .entry)) ⌝ }
 {
-    if words.len() != COUNT {
-        return false;
-    }
     if 65535 < words[A] {
         return false;
     }
     if 65535 < words[B] {
         return false;
     }
-    words[P] <= 65535
+    if 65535 < words[P] {
+        return false;
+    }
+    true
+}
+
+fn flags_fit(words: &[u32]) -> bool
+    requires { ⌜ length (now words) ≡ 14 ⌝ }
+    ensures { λ r. ⌜ r ≡ flagsFit (now (words .entry)) ⌝ }
+{
+    if 1 < words[C] {
+        return false;
+    }
+    if 1 < words[SWITCH_1] {
+        return false;
+    }
+    if 1 < words[SWITCH_2] {
+        return false;
+    }
+    if 1 < words[SWITCH_3] {
+        return false;
+    }
+    if 1 < words[SWITCH_4] {
+        return false;
+    }
+    if 1 < words[HALTED] {
+        return false;
+    }
+    true
+}
+
+// Whether the numbers are a machine's: all there, words where words are due, and flags of 0 or 1.
+fn fits(words: &[u32]) -> bool
+    ensures { λ r. ⌜ r ≡ fitsOf (now (words .entry)) ⌝ }
+{
+    if words.len() != COUNT {
+        return false;
+    }
+    if words_fit(words) {
+        return flags_fit(words);
+    }
+    false
 }
 
 fn flag(words: &[u32], i: usize) -> bool
     requires { ⌜ i < length (now words) ⌝ }
     ensures { λ r. ⌜ r ≡ flagOf (now (words .entry)) i ⌝ }
 {
-    words[i] != 0
+    words[i] == 1
 }
 
 fn machine_of(words: &[u32]) -> Machine
