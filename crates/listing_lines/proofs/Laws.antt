@@ -11,20 +11,12 @@ use lib.Dec.{ltb}
 use lib.ListN.{length, take, drop, set, getD, length-append, drop-of-length-le}
 use lib.Seq.{sets, set-comm, drop-cons, take-nil}
 use Rattle.source.specs.Bytes.{whether, bytes}
-use Rattle.emission.specs.Compile.{Compiled, Result}
+use Rattle.syntax.specs.Tree.{Program}
+use Rattle.emission.specs.Compile.{Result}
 use Rattle.emission.specs.Listing.{digits, octal, decimalBy, decimal, line, wordLines, listingDef}
+use Rattle.compiler.specs.Compile.{answerOf, imageAfter}
 use Rattle.compiler.specs.declared.Answer.{Answer}
-use Rattle.listing_lines.specs.Texts.{Wrote, digitsBy, lengthBy, wordLine, resultLines, countLines, listing}
-
--- ---- THE LISTING is the definition's
-
-pub accepted : (c : Compiled) → listing (Answer.Accepted (c .entry) (c .words) (c .globals)) (c .image) ≡ listingDef (Result.accepted c)
-unfolding listing listingDef resultLines countLines
-accepted c = simp append-assoc
-
-pub failed : (n at : ℕ) (image : List ℕ) → listing (Answer.Failed n at) image ≡ listingDef (Result.failed n at)
-unfolding listing listingDef resultLines
-failed n at image = refl
+use Rattle.listing_lines.specs.Texts.{Wrote, digitsBy, lengthBy, wordLine, resultLines, countLines, resultFor, ListingLaws}
 
 -- ---- Runs of stores
 
@@ -32,6 +24,13 @@ module _ {A : Type 0} where
   sets-append : (l : List A) (at : ℕ) (us vs : List A) → sets l at (us ++ vs) ≡ sets (sets l at us) (at + length us) vs
   sets-append l at [] vs = rw add-zero
   sets-append l at (u ∷ us) vs = sets-append (set l at u) (suc at) us vs ∙ rw (add-suc at (length us), suc-add at (length us))
+
+  -- the last first
+  sets-last : (l : List A) (at : ℕ) (us : List A) (v : A) → sets l at (us ++ (v ∷ [])) ≡ sets (set l (at + length us) v) at us
+  sets-last l at [] v = rw add-zero
+  sets-last l at (u ∷ us) v =
+      sets-last (set l at u) (suc at) us v
+      ∙ rw (add-suc at (length us), suc-add at (length us), set-comm l at (suc (at + length us)) u v (λ q. omega (arith, q)))
 
 -- ---- Texts one after another
 
@@ -196,6 +195,13 @@ module _ {a b : List ℕ} {at r : ℕ} (name : List ℕ) where
 pub octal-number : {a b : List ℕ} {at r : ℕ} (n : ℕ) → Wrote a b at r (digitsBy 8 6 n) → Wrote a b at r (octal n)
 octal-number n p = rw (octal-digits n) at p
 
+-- ---- The listing of what `compile` answers and leaves
+
+pub listing-laws : ListingLaws
+unfolding listingDef answerOf imageAfter
+listing-laws (Result.accepted c) image program = refl
+listing-laws (Result.failed n at) image program = refl
+
 -- ---- The whole
 
 module _ {a b : List ℕ} {r : ℕ} (image : List ℕ) where
@@ -204,10 +210,11 @@ module _ {a b : List ℕ} {r : ℕ} (image : List ℕ) where
 
   pub whole-accepted : {o : Answer} {entry words globals : ℕ} → o ≡ Answer.Accepted entry words globals
       → Wrote a b 0 r (resultLines 0 0 ++ (countLines entry words globals ++ (wordLines (bytes "g=") 0o200 (take globals (drop 0o200 image)) ++ wordLines (bytes "w=") 0o1000 (take words (drop 0o1000 image)))))
-      → (b ≡ sets a 0 (listing o image)) × (r ≡ length (listing o image))
-  unfolding listing
-  whole-accepted e p = whole _ (ap (λ x. listing x image) e) p
+      → (program : Program) → (b ≡ sets a 0 (listingDef (resultFor program o image))) × (r ≡ length (listingDef (resultFor program o image)))
+  unfolding listingDef resultLines countLines
+  whole-accepted e p program = whole _ (ap (λ x. listingDef (resultFor program x image)) e ∙ simp append-assoc) p
 
-  pub whole-failed : {o : Answer} {number at : ℕ} → o ≡ Answer.Failed number at → Wrote a b 0 r (resultLines number at) → (b ≡ sets a 0 (listing o image)) × (r ≡ length (listing o image))
-  unfolding listing
-  whole-failed e p = whole _ (ap (λ x. listing x image) e) p
+  pub whole-failed : {o : Answer} {number at : ℕ} → o ≡ Answer.Failed number at → Wrote a b 0 r (resultLines number at)
+      → (program : Program) → (b ≡ sets a 0 (listingDef (resultFor program o image))) × (r ≡ length (listingDef (resultFor program o image)))
+  unfolding listingDef resultLines
+  whole-failed e p program = whole _ (ap (λ x. listingDef (resultFor program x image)) e) p

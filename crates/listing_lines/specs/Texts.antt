@@ -3,10 +3,13 @@ use Prim.Native.Nat.{ℕ, zero, suc, _+_, _/_, _%_}
 use mathlib.Core.Path.{_≡_}
 use mathlib.Core.List.{List, [], _∷_, _++_}
 use lib.Dec.{ltb}
-use lib.ListN.{length, take, drop}
+use lib.ListN.{length}
 use lib.Seq.{sets}
 use Rattle.source.specs.Bytes.{whether, bytes}
-use Rattle.emission.specs.Listing.{octal, decimal, line, wordLines}
+use Rattle.syntax.specs.Tree.{Program}
+use Rattle.emission.specs.Compile.{Result}
+use Rattle.emission.specs.Listing.{octal, decimal, line, listingDef}
+use Rattle.compiler.specs.Compile.{answerOf, imageAfter}
 use Rattle.compiler.specs.declared.Answer.{Answer}
 use Rattle.compiler.specs.declared.Answer.the-variants.{Accepted, Failed}
 
@@ -39,8 +42,13 @@ resultLines number at = line (bytes "result=") (decimal number) ++ line (bytes "
 unfoldable pub countLines : ℕ → ℕ → ℕ → List ℕ
 countLines entry words globals = line (bytes "entry=") (octal entry) ++ (line (bytes "words=") (decimal words) ++ line (bytes "globals=") (decimal globals))
 
-unfoldable pub listing : Answer → List ℕ → List ℕ
-listing (Accepted entry words globals) image =
-    resultLines 0 0 ++ (countLines entry words globals ++
-    (wordLines (bytes "g=") 0o200 (take globals (drop 0o200 image)) ++ wordLines (bytes "w=") 0o1000 (take words (drop 0o1000 image))))
-listing (Failed number at) image = resultLines number at
+-- what an answer of `compile` and its image say of a result: all but the program, which no line depends on
+abbrev pub resultFor : Program → Answer → List ℕ → Result
+resultFor program (Accepted entry words globals) image =
+    Result.accepted (record { program = program; image = image; entry = entry; words = words; globals = globals })
+resultFor program (Failed number at) image = Result.failed number at
+
+-- of what `compile` answers and leaves for a result, the lines are that result's
+abbrev pub ListingLaws : Type 0
+ListingLaws =
+    (result : Result) (image : List ℕ) (program : Program) → listingDef (resultFor program (answerOf result) (imageAfter result image)) ≡ listingDef result

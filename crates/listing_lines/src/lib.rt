@@ -4,8 +4,9 @@ ghost use mathlib.Core.Path.{_≡_};
 ghost use Prim.Native.Nat.{_+_, _*_, _≤_, _<_};
 ghost use lib.ListN.{length, take, drop, set};
 ghost use lib.Seq.{sets};
-ghost use Rattle.emission.specs.Listing.{decimal, line, wordLines};
-ghost use Rattle.listing_lines.specs.Texts.{limit, Wrote, digitsBy, lengthBy, wordLine, resultLines, countLines, listing};
+ghost use Rattle.syntax.specs.Tree.{Program};
+ghost use Rattle.emission.specs.Listing.{decimal, line, wordLines, listingDef};
+ghost use Rattle.listing_lines.specs.Texts.{limit, Wrote, digitsBy, lengthBy, wordLine, resultLines, countLines, resultFor, ListingLaws};
 
 fn store(out: &mut [u8], at: usize, byte: u8)
     ensures { λ _. ⌜ now (out .exit) ≡ set (now (out .entry)) at byte ⌝ }
@@ -133,7 +134,7 @@ fn put_counts(out: &mut [u8], at: usize, entry: u16, words: u16, globals: u16) -
 
 // The listing's bytes, and how many they are.
 pub fn lines(answer: Answer, image: &[u16], out: &mut [u8]) -> usize
-    ensures { λ r. ⌜ (now (out .exit) ≡ sets (now (out .entry)) 0 (listing answer (now (image .entry)))) × (r ≡ length (listing answer (now (image .entry)))) ⌝ }
+    ensures { λ r. ⌜ ((program : Program) → (now (out .exit) ≡ sets (now (out .entry)) 0 (listingDef (resultFor program answer (now (image .entry))))) × (r ≡ length (listingDef (resultFor program answer (now (image .entry)))))) ⌝ }
 {
     match answer {
         Answer::Accepted {
@@ -149,3 +150,8 @@ pub fn lines(answer: Answer, image: &[u16], out: &mut [u8]) -> usize
         Answer::Failed { number, at } => put_result(out, number, at),
     }
 }
+
+// The lines of what `compile` answers and leaves are its result's: this function carries the theorem as its contract.
+pub fn listing_laws()
+    ensures { λ r. ⌜ ListingLaws ⌝ }
+{}
