@@ -2,9 +2,9 @@
 use Prim.Native.Nat.{ℕ, zero, suc, _+_, _-_, _≤_, _<_}
 use mathlib.Core.Path.{_≡_, refl, sym, ap, _∙_}
 use mathlib.Core.Bool.{Bool, true, false}
-use mathlib.Core.List.{List, [], _∷_, _++_, foldl}
+use mathlib.Core.List.{List, [], _∷_, _++_}
 use native.Mathlib.Omega.{arith}
-use borrow.Author.Tests.{eq-eqb, ne-eqb, le-leb, lt-leb, lt-ltb, le-ltb, ltb-true}
+use borrow.Author.Tests.{eq-eqb, ne-eqb, lt-ltb, le-ltb, ltb-true}
 use lib.Dec.{eqb, leb, ltb}
 use lib.ListN.{length, set, replicate, length-append}
 use Rattle.source.specs.Bytes.{whether}
@@ -29,25 +29,16 @@ use Rattle.cells.specs.declared.Part.{Part}
 use Rattle.cells.specs.Answers.{partOf, gotWith}
 use Rattle.declarations.specs.declared.Scope.{Scope}
 use Rattle.declarations.specs.declared.State.{State}
+use Rattle.declarations.specs.Reads.{Reads}
 use Rattle.declarations.specs.Scopes.{scopeOf}
 use Rattle.declarations.specs.States.{endsOf, poolOf, globalScope, withGlobal, stateOf, Sound, Anyhow, spaceNumber}
 use Rattle.declarations.specs.Arrays.{initialValue, Filled}
-use Rattle.declarations.proofs.Stating.{stored-more}
+use Rattle.declarations.proofs.Stating.{stored-more, more-declared}
 use Rattle.declarations.specs.Forms.{arrayHead, oneArray, arrayIn}
-use Rattle.declarations.proofs.Reading.{then-got, then-failed, then-inv, never, within-on, within-failed, expect-here, expect-other}
+use Rattle.declarations.proofs.Reading.{then-got, then-failed, then-inv, never, within-on, within-failed, expect-here, expect-other, reads-as}
 use Rattle.declarations.proofs.Naming.{name-room}
 use Rattle.declarations.proofs.Scoping.{held-more, stored-append}
 use Rattle.declarations.proofs.Limiting.{limit-case, space-number, space-fits}
-
--- ---- The size
-
-pub size-small : (v : ℕ) → v ≤ 32767 → v ≡ sizeOf v
-unfolding sizeOf
-size-small v h = rw (le-leb v 32767 h)
-
-pub size-large : (v : ℕ) → 32767 < v → 65536 - v ≡ sizeOf v
-unfolding sizeOf
-size-large v h = rw (lt-leb v 32767 h)
 
 -- ---- `]`
 
@@ -167,12 +158,6 @@ module _ (source : List ℕ) (names : Names) (size at : ℕ) where
         go (got v n) false = refl
         go (failed k a) b = refl
 
-    pub initial-failed : {k a : ℕ} → initialValue source names size count at ≡ failed k a → parseInitial source names size values at ≡ failed k a
-    initial-failed e = more-values ∙ then-failed _ e
-
-    pub initial-got : {v n : ℕ} → initialValue source names size count at ≡ got v n → parseInitial source names size values at ≡ got (snoc values v) n
-    initial-got e = more-values ∙ then-got _ e
-
 padded-none : (size : ℕ) → padded size [] ≡ replicate size 0
 unfolding padded
 padded-none zero = refl
@@ -221,14 +206,11 @@ module _ (source : List ℕ) (st : states.State) (at : ℕ) where
     array-on h = then-got _ e ∙ then-got _ h
 
 -- an array after those that are done
-module _ (source : List ℕ) (st : states.State) (done : List Declaration) (at : ℕ) {now : states.State} (e : now ≡ foldl states.step st done) where
-  pub array-got : {d : Declaration} {n : ℕ} → oneArray source now at ≡ got d n → arrayIn source st done at ≡ got (snoc done d) n
-  unfolding arrayIn
-  array-got h = then-got _ (ap (λ z. oneArray source z at) (sym e) ∙ h)
-
-  pub array-failed : {k a : ℕ} → oneArray source now at ≡ failed k a → arrayIn source st done at ≡ failed k a
-  unfolding arrayIn
-  array-failed h = then-failed _ (ap (λ z. oneArray source z at) (sym e) ∙ h)
+pub array-next : (source : List ℕ) (at : ℕ) {s s' s'' : State} {t t' t'' i i' i'' : List ℕ} {done : List Declaration} {part : Part} → Anyhow s t i s' t' i' done
+    → Reads (λ d. Anyhow s' t' i' s'' t'' i'' (d ∷ [])) part (oneArray source (stateOf s' t') at) → Reads (Anyhow s t i s'' t'' i'') part (arrayIn source (stateOf s t) done at)
+unfolding arrayIn
+array-next source at {done = done} p r =
+    reads-as (snoc done) r refl (ap (λ z. andThen (oneArray source z at) (λ d n. got (snoc done d) n)) (sym (p (λ _. 0) .state))) (λ d h ends. more-declared (p ends) (h ends))
 
 -- declared
 module _ (s : State) (t u image between after : List ℕ) (name : Packed) (size : ℕ) (values : List ℕ) where
@@ -252,6 +234,15 @@ pub none-filled : (first size : ℕ) (image : List ℕ) → Filled first size im
 unfolding stored
 none-filled first size image = record { laid = refl; counted = refl; few = omega arith }
 
-pub more-filled : {first size count : ℕ} (v : ℕ) {image now after values : List ℕ} → Filled first size image count now values → count < size → after ≡ set now (first + count) v → Filled first size image (count + 1) after (snoc values v)
+more-filled : {first size count : ℕ} (v : ℕ) {image now after values : List ℕ} → Filled first size image count now values → count < size → after ≡ set now (first + count) v → Filled first size image (count + 1) after (snoc values v)
 more-filled {first} {size} {count} v {image} {now} {after} {values} f h e =
     record { laid = stored-more image first values v count (f .counted) (f .laid) e; counted = length-append values (v ∷ []) ∙ ap (λ k. k + 1) (f .counted); few = omega arith }
+
+-- a value after those that are done
+module _ (source : List ℕ) (names : Names) (at : ℕ) {first size count : ℕ} {image now values : List ℕ} {part : Part} (f : Filled first size image count now values) where
+  pub value-next : {v n : ℕ} {after : List ℕ} → initialValue source names size count at ≡ got v n → part ≡ Part.Read n → after ≡ set now (first + count) v
+      → Reads (Filled first size image (count + 1) after) part (parseInitial source names size values at)
+  value-next {v} e p h = Reads.read (more-values source names size at values (f .counted) ∙ then-got _ e) p (more-filled v f (value-room source names size at count e) h)
+
+  pub value-fails : {held : List ℕ → Type 0} {k a : ℕ} → initialValue source names size count at ≡ failed k a → part ≡ Part.Failed k a → Reads held part (parseInitial source names size values at)
+  value-fails e p = Reads.fails (more-values source names size at values (f .counted) ∙ then-failed _ e) p

@@ -2,7 +2,7 @@
 use Prim.Native.Nat.{ℕ, _≤_}
 use mathlib.Core.Path.{_≡_, refl, sym, ap, _∙_}
 use mathlib.Core.Bool.{Bool, true, false, _&&_}
-use mathlib.Core.List.{List, [], _∷_, _++_, foldl, append-assoc}
+use mathlib.Core.List.{List, [], _∷_, _++_, foldl, append-assoc, append-nil}
 use mathlib.Core.Option.{Option, none, some}
 use native.Mathlib.Omega.{arith}
 use borrow.Author.Tests.{eq-eqb, ne-eqb, eqb-true, eqb-false, leb-true, leb-false}
@@ -23,11 +23,16 @@ use Rattle.syntax.specs.Cells.{parseInRange}
 use Rattle.syntax.specs.Statements.{parseOutermost}
 use Rattle.syntax.specs.Declarations.{ItemWord, newName, sizeOf, parseItem, parseList, parseLocal, parseLocals, parseGlobal, parseInitials, parseArray, parseJudged, parseProcedure, parseAccumulator, declarationWords, parseDeclarations}
 use Rattle.syntax.specs.Program.{parseMain}
+use Rattle.cells.specs.declared.Part.{Part}
+use Rattle.declarations.specs.declared.State as code
+use Rattle.declarations.specs.Reads.{Reads}
+use Rattle.declarations.specs.States.{stateOf, Declared}
 use Rattle.declarations.specs.Forms.{declarationsOf, begins, itemsIn, arrayHead, oneArray, arrayIn, arraysIn, judgedIn, headingIn, bodyIn, procedureIn, accumulatorIn, declarationIn}
 use Rattle.declarations.specs.Procedures.{wordOf, mainIn}
 use Rattle.declarations.proofs.Locals.{word-none}
-use Rattle.declarations.proofs.Reading.{Turning, then-got, then-failed}
-use Rattle.declarations.proofs.Scoping.{fold-append, append-nil}
+use Rattle.declarations.proofs.Reading.{Turning, reads-as}
+use Rattle.declarations.proofs.Scoping.{fold-append}
+use Rattle.declarations.proofs.Stating.{more-declared}
 use Rattle.declarations.proofs.Mapping.{mapped, then-mapped, map-list}
 
 -- ---- Results
@@ -186,9 +191,9 @@ seven {C} k h a b c d e f g = go (eqb k 24) (eqb k 25) (eqb k 26) (eqb k 27) (eq
 abbrev pub declarationMore : List ℕ → List Declaration → ℕ → Option (Got (List Declaration))
 declarationMore source ds n = let t = tokenAt source n in asOneOf (declarationWords source) t (λ parse. some (parse ds t)) (λ _. none)
 
-pub declarations-first : (source : List ℕ) (at : ℕ) → Turning (declarationMore source) (parseDeclarations source at) [] at (length source)
+pub declarations-first : (source : List ℕ) (at : ℕ) {held : List Declaration → Type 0} → held [] → Turning (declarationMore source) (parseDeclarations source at) held at (length source)
 unfolding parseDeclarations repeat
-declarations-first source at = record { same = refl }
+declarations-first source at h = record { done = []; holds = h; same = refl }
 
 token-none : (source : List ℕ) (ds : List Declaration) (t : Token) → begins (t .kind) ≡ false → asOneOf (declarationWords source) t (λ parse. some (parse ds t)) (λ _. none) ≡ none
 unfolding find
@@ -255,12 +260,11 @@ module _ (source : List ℕ) (ds : List Declaration) (at : ℕ) {t : Token} (e :
   declaration-some h = rw (← e) (token-some source ds t h)
 
 -- with the state that the code has
-module _ (source : List ℕ) (ds : List Declaration) (t : Token) {now : State} (e : now ≡ stateAfter ds) where
-  pub declaration-got : {new : List Declaration} {n : ℕ} → declarationIn source now t ≡ got new n → mapped (λ new. ds ++ new) (declarationIn source (stateAfter ds) t) ≡ got (ds ++ new) n
-  declaration-got h = then-got _ (ap (λ st. declarationIn source st t) (sym e) ∙ h)
-
-  pub declaration-failed : {k a : ℕ} → declarationIn source now t ≡ failed k a → mapped (λ new. ds ++ new) (declarationIn source (stateAfter ds) t) ≡ failed k a
-  declaration-failed h = then-failed _ (ap (λ st. declarationIn source st t) (sym e) ∙ h)
+pub declaration-next : (source : List ℕ) (u : Token) {ends : ℕ → ℕ} {s s' s'' : code.State} {t t' t'' i i' i'' : List ℕ} {done : List Declaration} {part : Part} → stateOf s t ≡ start → Declared ends s t i s' t' i' done
+    → Reads (Declared ends s' t' i' s'' t'' i'') part (declarationIn source (stateOf s' t') u) → Reads (Declared ends s t i s'' t'' i'') part (mapped (λ new. done ++ new) (declarationIn source (stateAfter done) u))
+unfolding stateAfter
+declaration-next source u {done = done} e p r =
+    reads-as (λ new. done ++ new) r refl (ap (λ st. mapped (λ new. done ++ new) (declarationIn source st u)) (sym (p .state ∙ ap (λ x. foldl step x done) e))) (λ new d. more-declared p d)
 
 -- ---- The forms, by the token
 

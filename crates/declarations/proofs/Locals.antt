@@ -1,7 +1,7 @@
 -- Locals, list after list. Assumes nothing.
 use Prim.Native.Nat.{ℕ}
 use mathlib.Core.Path.{_≡_, refl, sym, ap, _∙_}
-use mathlib.Core.List.{List, [], _∷_, _++_, foldl, append-assoc}
+use mathlib.Core.List.{List, [], _∷_, _++_, foldl, append-assoc, append-nil}
 use mathlib.Core.Option.{Option, none, some}
 use borrow.Author.Tests.{eq-eqb, ne-eqb}
 use lib.Dec.{eqb}
@@ -14,11 +14,15 @@ use Rattle.syntax.specs.Tree.{Name, Item}
 use Rattle.syntax.specs.Symbols.{Scope, declareItem}
 use Rattle.syntax.specs.Words.{asOneOf}
 use Rattle.syntax.specs.Parse.{Got, andThen, snoc, repeat}
-use Rattle.syntax.specs.Parse.Got.{got, failed}
+use Rattle.syntax.specs.Parse.Got.{got}
 use Rattle.syntax.specs.Declarations.{ItemWord, itemWords, parseItem, parseList, parseLocal, parseLocals}
+use Rattle.cells.specs.declared.Part.{Part}
+use Rattle.declarations.specs.declared.Scope as code
+use Rattle.declarations.specs.Reads.{Reads}
+use Rattle.declarations.specs.Scopes.{scopeOf, Scoped}
 use Rattle.declarations.specs.Procedures.{wordOf}
-use Rattle.declarations.proofs.Reading.{Turning, then-got, then-failed}
-use Rattle.declarations.proofs.Scoping.{fold-append, append-nil}
+use Rattle.declarations.proofs.Reading.{Turning, reads-as}
+use Rattle.declarations.proofs.Scoping.{fold-append, more-scoped}
 use Rattle.declarations.proofs.Mapping.{mapped, then-mapped, map-list}
 
 -- ---- The word of a token
@@ -55,9 +59,9 @@ as-word {B} kind f g = go (find (eqb kind) itemWords)
 abbrev pub localMore : List ℕ → Scope → List (Name × Item) → ℕ → Option (Got (List (Name × Item)))
 localMore source scope done n = let t = tokenAt source n in asOneOf itemWords t (λ word. some (parseList source (parseLocal source scope word) done (t .next))) (λ _. none)
 
-pub locals-first : (source : List ℕ) (scope : Scope) (at : ℕ) → Turning (localMore source scope) (parseLocals source scope at) [] at (length source)
+pub locals-first : (source : List ℕ) (scope : Scope) (at : ℕ) {held : List (Name × Item) → Type 0} → held [] → Turning (localMore source scope) (parseLocals source scope at) held at (length source)
 unfolding parseLocals repeat
-locals-first source scope at = record { same = refl }
+locals-first source scope at h = record { done = []; holds = h; same = refl }
 
 module _ (source : List ℕ) (scope : Scope) (done : List (Name × Item)) (at : ℕ) {t : Token} (e : t ≡ tokenAt source at) where
   pub local-none : none ≡ wordOf (t .kind) → localMore source scope done at ≡ none
@@ -80,9 +84,7 @@ module _ (source : List ℕ) (scope : Scope) (word : ItemWord) (done : List (Nam
       ap (λ d. parseList source (parseLocal source scope word) d at) (sym (append-nil done))
       ∙ map-list (λ items. done ++ items) source (parseLocal source (foldl declareItem scope done) word) (parseLocal source scope word) one-more [] at
 
-  module _ (at : ℕ) {now : Scope} (e : now ≡ foldl declareItem scope done) where
-    pub locals-got : {items : List (Name × Item)} {n : ℕ} → parseList source (parseLocal source now word) [] at ≡ got items n → parseList source (parseLocal source scope word) done at ≡ got (done ++ items) n
-    locals-got h = list-more at ∙ then-got _ (ap (λ s. parseList source (parseLocal source s word) [] at) (sym e) ∙ h)
-
-    pub locals-failed : {k a : ℕ} → parseList source (parseLocal source now word) [] at ≡ failed k a → parseList source (parseLocal source scope word) done at ≡ failed k a
-    locals-failed h = list-more at ∙ then-failed _ (ap (λ s. parseList source (parseLocal source s word) [] at) (sym e) ∙ h)
+pub locals-next : (source : List ℕ) (word : ItemWord) (at : ℕ) {s s' s'' : code.Scope} {t t' t'' i i' i'' : List ℕ} {done : List (Name × Item)} {part : Part} → Scoped s t i s' t' i' done
+    → Reads (Scoped s' t' i' s'' t'' i'') part (parseList source (parseLocal source (scopeOf s' t') word) [] at) → Reads (Scoped s t i s'' t'' i'') part (parseList source (parseLocal source (scopeOf s t) word) done at)
+locals-next source word at {s} {t = t} {done = done} p r =
+    reads-as (λ items. done ++ items) r refl (list-more source (scopeOf s t) word done at ∙ ap (λ z. mapped (λ items. done ++ items) (parseList source (parseLocal source z word) [] at)) (sym (p .scope))) (λ items d. more-scoped p d)

@@ -166,43 +166,52 @@ module _ {A : Type 0} (more : A → ℕ → Option (Got A)) (d : A) (at : ℕ) w
 abbrev pub separated : {A : Type 0} → List ℕ → ℕ → (A → ℕ → Got A) → A → ℕ → Option (Got A)
 separated source separator more done n = let t = tokenAt source n in whether (is separator t) (λ _. some (more done (t .next))) (λ _. none)
 
--- a list w that has come to another part, after those that are done
-pub record Listing {A : Type 0} (source : List ℕ) (separator : ℕ) (more : A → ℕ → Got A) (w : Got A) (done : A) (from left : ℕ) : Type 0 where
+-- a list w that has come to another part, after those that are done and what they did
+pub record Listing {A : Type 0} (source : List ℕ) (separator : ℕ) (more : A → ℕ → Got A) (w : Got A) (held : A → Type 0) (from left : ℕ) : Type 0 where
+  pub done : A
+  pub holds : held done
   pub same : w ≡ andThen (more done from) (λ one next. repeatBy (separated source separator more) left one next)
 
-pub list-first : {A : Type 0} (source : List ℕ) (separator : ℕ) (more : A → ℕ → Got A) (start : A) (at : ℕ) → Listing source separator more (parted source separator (more start) more at) start at (length source)
+pub list-first : {A : Type 0} (source : List ℕ) (separator : ℕ) (more : A → ℕ → Got A) (start : A) (at : ℕ) {held : A → Type 0} → held start
+    → Listing source separator more (parted source separator (more start) more at) held at (length source)
 unfolding parted repeat
-list-first source separator more start at = record { same = refl }
+list-first source separator more start at h = record { done = start; holds = h; same = refl }
 
-module _ {A : Type 0} {source : List ℕ} {separator : ℕ} {more : A → ℕ → Got A} {w : Got A} {done : A} {from left : ℕ} (l : Listing source separator more w done from left) where
-  pub list-failed : {k a : ℕ} → more done from ≡ failed k a → w ≡ failed k a
-  list-failed e = l .same ∙ then-failed _ e
+-- its next part is read
+module _ {A : Type 0} {source : List ℕ} {separator : ℕ} {more : A → ℕ → Got A} {w : Got A} {held held' : A → Type 0} {from left : ℕ} (l : Listing source separator more w held from left) {part : Part}
+    (r : Reads held' part (more (l .done) from)) where
+  pub list-failed : {k a : ℕ} → part ≡ Part.Failed k a → Reads held' part w
+  list-failed e = fails (l .same ∙ then-failed _ (failed-as r e)) e
 
-  module _ {d : A} {n : ℕ} (e : more done from ≡ got d n) where
-    pub list-zero : left ≡ 0 → w ≡ got d n
-    list-zero z = l .same ∙ then-got _ e ∙ repeat-zero (separated source separator more) d n z
+  module _ {n : ℕ} (e : part ≡ Part.Read n) where
+    pub list-zero : left ≡ 0 → Reads held' part w
+    list-zero z = let one = came r e in read (l .same ∙ then-got _ (one .parsed) ∙ repeat-zero (separated source separator more) (one .tree) n z) e (one .does)
 
     module _ {t : Token} (i : t ≡ tokenAt source n) where
-      pub list-last : (t .kind ≡ separator → ⊥) → w ≡ got d n
-      list-last k = l .same ∙ then-got _ e ∙ repeat-none (separated source separator more) d n left (rw (← i, ne-eqb _ _ k))
+      pub list-last : (t .kind ≡ separator → ⊥) → Reads held' part w
+      list-last k = let one = came r e in read (l .same ∙ then-got _ (one .parsed) ∙ repeat-none (separated source separator more) (one .tree) n left (rw (← i, ne-eqb _ _ k))) e (one .does)
 
-      pub list-next : (left ≡ 0 → ⊥) → t .kind ≡ separator → Listing source separator more w d (t .next) (left - 1)
-      list-next z k = record { same = l .same ∙ then-got _ e ∙ repeat-some (separated source separator more) d n left z (rw (← i, eq-eqb _ _ k)) }
+      pub list-next : (left ≡ 0 → ⊥) → t .kind ≡ separator → Listing source separator more w held' (t .next) (left - 1)
+      list-next z k =
+          let one = came r e in
+          record { done = one .tree; holds = one .does; same = l .same ∙ then-got _ (one .parsed) ∙ repeat-some (separated source separator more) (one .tree) n left z (rw (← i, eq-eqb _ _ k)) }
 
--- parts in turn that w has come to, after those that are done
-pub record Turning {A : Type 0} (more : A → ℕ → Option (Got A)) (w : Got A) (done : A) (from left : ℕ) : Type 0 where
+-- parts in turn that w has come to, after those that are done and what they did
+pub record Turning {A : Type 0} (more : A → ℕ → Option (Got A)) (w : Got A) (held : A → Type 0) (from left : ℕ) : Type 0 where
+  pub done : A
+  pub holds : held done
   pub same : w ≡ repeatBy more left done from
 
-module _ {A : Type 0} {more : A → ℕ → Option (Got A)} {w : Got A} {done : A} {from left : ℕ} (t : Turning more w done from left) where
-  pub turn-zero : left ≡ 0 → w ≡ got done from
-  turn-zero z = t .same ∙ repeat-zero more done from z
+module _ {A : Type 0} {more : A → ℕ → Option (Got A)} {w : Got A} {held : A → Type 0} {from left : ℕ} (t : Turning more w held from left) where
+  pub turn-zero : left ≡ 0 → Reads held (Part.Read from) w
+  turn-zero z = read (t .same ∙ repeat-zero more (t .done) from z) refl (t .holds)
 
-  pub turn-none : more done from ≡ none → w ≡ got done from
-  turn-none e = t .same ∙ repeat-none more done from left e
+  pub turn-none : more (t .done) from ≡ none → Reads held (Part.Read from) w
+  turn-none e = read (t .same ∙ repeat-none more (t .done) from left e) refl (t .holds)
 
-  module _ (z : left ≡ 0 → ⊥) {g : Got A} (e : more done from ≡ some g) where
-    pub turn-failed : {k a : ℕ} → g ≡ failed k a → w ≡ failed k a
-    turn-failed h = t .same ∙ repeat-some more done from left z e ∙ then-failed _ h
+  module _ (z : left ≡ 0 → ⊥) {g : Got A} (e : more (t .done) from ≡ some g) {held' : A → Type 0} {part : Part} (r : Reads held' part g) where
+    pub turn-failed : {k a : ℕ} → part ≡ Part.Failed k a → Reads held' part w
+    turn-failed h = fails (t .same ∙ repeat-some more (t .done) from left z e ∙ then-failed _ (failed-as r h)) h
 
-    pub turn-next : {d : A} {n : ℕ} → g ≡ got d n → Turning more w d n (left - 1)
-    turn-next h = record { same = t .same ∙ repeat-some more done from left z e ∙ then-got _ h }
+    pub turn-next : {n : ℕ} → part ≡ Part.Read n → Turning more w held' n (left - 1)
+    turn-next h = let one = came r h in record { done = one .tree; holds = one .does; same = t .same ∙ repeat-some more (t .done) from left z e ∙ then-got _ (one .parsed) }

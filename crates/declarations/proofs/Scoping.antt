@@ -1,7 +1,7 @@
 -- Items declared and laid, one after another. Assumes nothing.
 use Prim.Native.Nat.{ℕ, zero, suc, _+_, _*_, _≤_, _<_}
 use mathlib.Core.Path.{_≡_, refl, sym, ap, ap₂, _∙_}
-use mathlib.Core.List.{List, [], _∷_, _++_, foldl, append-assoc}
+use mathlib.Core.List.{List, [], _∷_, _++_, foldl, append-assoc, append-nil}
 use native.Mathlib.Omega.{arith}
 use lib.ListN.{length, set, take, length-append}
 use lib.Seq.{take-take}
@@ -23,8 +23,9 @@ use Rattle.emitter.specs.Programs.{stored, itemValues, localValues}
 use Rattle.cells.specs.declared.Part.{Part}
 use Rattle.cells.specs.Answers.{gotWith}
 use Rattle.declarations.specs.declared.Scope as code
+use Rattle.declarations.specs.Reads.{Reads}
 use Rattle.declarations.specs.Scopes.{scopeOf, Room, Scoped}
-use Rattle.declarations.proofs.Reading.{then-got, then-failed, then-inv, map-then}
+use Rattle.declarations.proofs.Reading.{then-got, then-failed, then-inv, map-then, reads-as}
 use Rattle.declarations.proofs.Naming.{name-room, limit-same}
 
 -- ---- Lists
@@ -32,10 +33,6 @@ use Rattle.declarations.proofs.Naming.{name-room, limit-same}
 pub fold-append : {A B : Type 0} (f : A → B → A) (a : A) (xs ys : List B) → foldl f a (xs ++ ys) ≡ foldl f (foldl f a xs) ys
 fold-append f a [] ys = refl
 fold-append f a (x ∷ xs) ys = fold-append f (f a x) xs ys
-
-pub append-nil : {A : Type 0} (xs : List A) → xs ++ [] ≡ xs
-append-nil [] = refl
-append-nil (x ∷ xs) = ap (λ l. x ∷ l) (append-nil xs)
 
 pub take-less : (m n : ℕ) (a b : List ℕ) → m ≤ n → take n a ≡ take n b → take m a ≡ take m b
 take-less m n a b h e = sym (take-take m n a h) ∙ ap (take m) e ∙ take-take m n b h
@@ -133,16 +130,12 @@ module _ {s s' s'' : code.Scope} {t t' t'' i i' i'' : List ℕ} {xs ys : List (N
         laid = q .laid ∙ ap₂ (λ x a. stored x a (localValues ys)) (p .laid) at ∙ sym (stored-append i (s .base + s .words) (localValues xs) (localValues ys)) ∙ ap (stored i (s .base + s .words)) (sym (values-append xs ys));
       }
 
--- ---- A local, after those that are done
-
-module _ (source : List ℕ) (S : Scope) (word : ItemWord) (done : List (Name × Item)) (at : ℕ) {now : Scope} (e : now ≡ foldl declareItem S done) where
-  pub local-got : {x : Name × Item} {n : ℕ} → parseItem source word now at ≡ got x n → parseLocal source S word done at ≡ got (snoc done x) n
-  unfolding parseLocal
-  local-got h = then-got _ (ap (λ z. parseItem source word z at) (sym e) ∙ h)
-
-  pub local-failed : {k a : ℕ} → parseItem source word now at ≡ failed k a → parseLocal source S word done at ≡ failed k a
-  unfolding parseLocal
-  local-failed h = then-failed _ (ap (λ z. parseItem source word z at) (sym e) ∙ h)
+-- a local after those that are done
+pub local-next : (source : List ℕ) (word : ItemWord) (at : ℕ) {s s' s'' : code.Scope} {t t' t'' i i' i'' : List ℕ} {done : List (Name × Item)} {part : Part} → Scoped s t i s' t' i' done
+    → Reads (λ one. Scoped s' t' i' s'' t'' i'' (one ∷ [])) part (parseItem source word (scopeOf s' t') at) → Reads (Scoped s t i s'' t'' i'') part (parseLocal source (scopeOf s t) word done at)
+unfolding parseLocal
+local-next source word at {done = done} p r =
+    reads-as (snoc done) r refl (ap (λ z. andThen (parseItem source word z at) (λ item n. got (snoc done item) n)) (sym (p .scope))) (λ one d. more-scoped p d)
 
 -- ---- A name and its item
 

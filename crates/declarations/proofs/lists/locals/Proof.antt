@@ -1,36 +1,26 @@
--- `lists::locals` meets its contract. The invariant: from `from` on, with the locals `done`, the definition reads what it reads from `at` on. Assumes nothing.
+-- `lists::locals` meets its contract. The invariant: from `from` on, with the locals that are done, the definition reads what it reads from `at` on. Assumes nothing.
 use mathlib.Core.Path.{_≡_, refl, _∙_}
-use Prim.Native.Nat.{ℕ}
-use mathlib.Core.List.{List, []}
 use lib.ListN.{length}
-use Rattle.syntax.specs.Tree.{Name, Item}
 use Rattle.syntax.specs.Declarations.{parseLocals}
-use Rattle.declarations.specs.declared.Scope.{Scope}
 use Rattle.declarations.specs.Scopes.{scopeOf, Scoped}
 use Rattle.declarations.specs.Procedures.{treeFound}
+use Rattle.declarations.proofs.Reading.{Turning, turn-zero, turn-none, turn-failed, turn-next}
+use Rattle.declarations.proofs.Scoping.{none-scoped}
+use Rattle.declarations.proofs.Locals.{localMore, locals-first, local-none, local-some, locals-next}
 use borrow.Author.Needs.{needs}
-use Rattle.declarations.specs.Reads.{Reads}
-use Rattle.declarations.proofs.Reading.{came, failed-as, Turning, turn-zero, turn-none, turn-failed, turn-next}
-use Rattle.declarations.proofs.Scoping.{none-scoped, more-scoped}
-use Rattle.declarations.proofs.Locals.{localMore, locals-first, local-none, local-some, locals-got, locals-failed}
 use Rattle.declarations.proofs.lists.locals.Statement.{statement}
 use Rattle.declarations.proofs.lists.locals.Tie as tie
 
-record Inv (source table₀ image₀ : List ℕ) (at : ℕ) (scope₀ : Scope) (table image : List ℕ) (scope : Scope) (from left : ℕ) : Type 0 where
-  done : List (Name × Item)
-  turning : Turning (localMore source (scopeOf scope₀ table₀)) (parseLocals source (scopeOf scope₀ table₀) at) done from left
-  scoped : Scoped scope₀ table₀ image₀ scope table image done
-  long : length table ≡ length table₀
-  wide : length image ≡ length image₀
-
 abbrev Inv-loop : tie.InvT-loop
-Inv-loop source table₀ image₀ at current₀ from₀ left₀ table image current from left = Inv source table₀ image₀ at current₀ table image current from left
+Inv-loop source table₀ image₀ at current₀ from₀ left₀ table image current from left =
+    Turning (localMore source (scopeOf current₀ table₀)) (parseLocals source (scopeOf current₀ table₀) at) (Scoped current₀ table₀ image₀ current table image) from left
+    × (length table ≡ length table₀) × (length image ≡ length image₀)
 
 abbrev μ-loop : tie.MeasureT-loop
 μ-loop source table₀ image₀ at current₀ from₀ left₀ table image current from left = left
 
 loop-holds : tie.Need-loop-holds Inv-loop μ-loop
-loop-holds c = record { done = []; turning = locals-first _ _ _; scoped = none-scoped _ _ _ (c .before .before .before .pre); long = refl; wide = refl }
+loop-holds c = (locals-first _ _ _ (none-scoped _ _ _ (c .before .before .before .pre)), refl, refl)
 
 token-at-requires : tie.Need-token-at-requires Inv-loop μ-loop
 token-at-requires c κs = search needs
@@ -39,15 +29,13 @@ item-word-requires : tie.Need-item-word-requires Inv-loop μ-loop
 item-word-requires c κs = search needs
 
 same-length : tie.Need-same-length Inv-loop μ-loop
-same-length c = c .before .before .before .loop .inv .long
+same-length c = c .before .before .before .loop .inv .1
 
 same-length-2 : tie.Need-same-length-2 Inv-loop μ-loop
-same-length-2 c = c .before .before .before .loop .inv .wide
+same-length-2 c = c .before .before .before .loop .inv .2
 
 returns : tie.Need-returns Inv-loop μ-loop
-returns c =
-    let l = c .before .before .before .loop .inv in
-    Reads.read (turn-zero (l .turning) (c .if1 .taken)) refl (l .scoped)
+returns c = turn-zero (c .before .before .before .loop .inv .0) (c .if1 .taken)
 
 enum-known-found : tie.Need-enum-known-found Inv-loop μ-loop
 enum-known-found c = search needs
@@ -56,19 +44,17 @@ enum-told : tie.Need-enum-told Inv-loop μ-loop
 enum-told c = search needs
 
 same-length-3 : tie.Need-same-length-3 Inv-loop μ-loop
-same-length-3 c = c .before .before .before .before .before .loop .inv .long
+same-length-3 c = c .before .before .before .before .before .loop .inv .1
 
 same-length-4 : tie.Need-same-length-4 Inv-loop μ-loop
-same-length-4 c = c .before .before .before .before .before .loop .inv .wide
+same-length-4 c = c .before .before .before .before .before .loop .inv .2
 
 returns-2 : tie.Need-returns-2 Inv-loop μ-loop
 unfolding treeFound
-returns-2 c =
-    let l = c .before .before .before .before .before .loop .inv in
-    Reads.read (turn-none (l .turning) (local-none _ _ _ _ (c .before .before .before .before .token-at .ensures) (rw (c .enum-told .given .1) at (c .before .before .before .item-word .ensures)))) refl (l .scoped)
+returns-2 c = turn-none (c .before .before .before .before .before .loop .inv .0) (local-none _ _ _ _ (c .before .before .before .before .token-at .ensures) (rw (c .enum-told .given .1) at (c .before .before .before .item-word .ensures)))
 
 items-requires : tie.Need-items-requires Inv-loop μ-loop
-items-requires c κs = c .before .before .before .before .before .before .before .before .loop .inv .scoped .room
+items-requires c κs = c .before .before .before .before .before .before .before .before .loop .inv .0 .holds .room
 
 enum-known-part : tie.Need-enum-known-part Inv-loop μ-loop
 enum-known-part c = search needs
@@ -77,16 +63,14 @@ enum-told-2 : tie.Need-enum-told-2 Inv-loop μ-loop
 enum-told-2 c = search needs
 
 same-length-5 : tie.Need-same-length-5 Inv-loop μ-loop
-same-length-5 c = c .before .before .before .before .before .before .items .kept .1 .0 ∙ c .before .before .before .before .before .before .before .before .before .before .before .before .before .before .before .loop .inv .long
+same-length-5 c = c .before .before .before .before .before .before .items .kept .1 .0 ∙ c .before .before .before .before .before .before .before .before .before .before .before .before .before .before .before .loop .inv .1
 
 same-length-6 : tie.Need-same-length-6 Inv-loop μ-loop
-same-length-6 c = c .before .before .before .before .before .before .items .kept .1 .1 .0 ∙ c .before .before .before .before .before .before .before .before .before .before .before .before .before .before .before .loop .inv .wide
+same-length-6 c = c .before .before .before .before .before .before .items .kept .1 .1 .0 ∙ c .before .before .before .before .before .before .before .before .before .before .before .before .before .before .before .loop .inv .2
 
 returns-3 : tie.Need-returns-3 Inv-loop μ-loop
 unfolding treeFound
-returns-3 c =
-    let l = c .before .before .before .before .before .before .before .before .before .before .before .before .before .before .before .loop .inv in
-    Reads.fails (turn-failed (l .turning) (c .before .before .before .before .before .before .before .before .before .before .before .before .if1 .left) (local-some _ _ _ _ (c .before .before .before .before .before .before .before .before .before .before .before .before .before .before .token-at .ensures) (rw (c .before .before .before .before .before .before .before .before .before .before .found .given .1) at (c .before .before .before .before .before .before .before .before .before .before .before .before .before .item-word .ensures))) (locals-failed _ _ _ _ _ (l .scoped .scope) (failed-as (c .before .before .before .before .before .before .items .ensures) (c .enum-told2 .given .1)))) (c .enum-told2 .given .1)
+returns-3 c = let l = c .before .before .before .before .before .before .before .before .before .before .before .before .before .before .before .loop .inv in turn-failed (l .0) (c .before .before .before .before .before .before .before .before .before .before .before .before .if1 .left) (local-some _ _ _ _ (c .before .before .before .before .before .before .before .before .before .before .before .before .before .before .token-at .ensures) (rw (c .before .before .before .before .before .before .before .before .before .before .found .given .1) at (c .before .before .before .before .before .before .before .before .before .before .before .before .before .item-word .ensures))) (locals-next _ _ _ (l .0 .holds) (c .before .before .before .before .before .before .items .ensures)) (c .enum-told2 .given .1)
 
 sub-left : tie.Need-sub-left Inv-loop μ-loop
 sub-left c = search needs
@@ -98,14 +82,7 @@ loop-again : tie.Need-loop-again Inv-loop μ-loop
 unfolding treeFound
 loop-again c =
     let l = c .before .before .before .before .before .before .before .before .before .before .before .before .before .before .before .before .before .loop .inv in
-    let r = came (c .before .before .before .before .before .before .before .before .items .ensures) (c .before .before .part .given .1) in
-    record {
-      done = _;
-      turning = turn-next (l .turning) (c .before .before .before .before .before .before .before .before .before .before .before .before .before .before .if1 .left) (local-some _ _ _ _ (c .before .before .before .before .before .before .before .before .before .before .before .before .before .before .before .before .token-at .ensures) (rw (c .before .before .before .before .before .before .before .before .before .before .before .before .found .given .1) at (c .before .before .before .before .before .before .before .before .before .before .before .before .before .before .before .item-word .ensures))) (locals-got _ _ _ _ _ (l .scoped .scope) (r .parsed));
-      scoped = more-scoped (l .scoped) (r .does);
-      long = c .before .before .before .before .before .before .before .before .items .kept .1 .0 ∙ l .long;
-      wide = c .before .before .before .before .before .before .before .before .items .kept .1 .1 .0 ∙ l .wide;
-    }
+    (turn-next (l .0) (c .before .before .before .before .before .before .before .before .before .before .before .before .before .before .if1 .left) (local-some _ _ _ _ (c .before .before .before .before .before .before .before .before .before .before .before .before .before .before .before .before .token-at .ensures) (rw (c .before .before .before .before .before .before .before .before .before .before .before .before .found .given .1) at (c .before .before .before .before .before .before .before .before .before .before .before .before .before .before .before .item-word .ensures))) (locals-next _ _ _ (l .0 .holds) (c .before .before .before .before .before .before .before .before .items .ensures)) (c .before .before .part .given .1), c .before .before .before .before .before .before .before .before .items .kept .1 .0 ∙ l .1, c .before .before .before .before .before .before .before .before .items .kept .1 .1 .0 ∙ l .2)
 
 pub locals-spec : {M : Type 1} → statement M
 locals-spec =

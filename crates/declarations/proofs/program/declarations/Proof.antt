@@ -1,70 +1,54 @@
--- `program::declarations` meets its contract. The invariant: from `from` on, after the declarations `done`, the definition reads what it reads from `at` on. Assumes nothing.
-use mathlib.Core.Path.{_≡_, refl, sym, ap, _∙_}
-use Prim.Native.Nat.{ℕ}
-use mathlib.Core.List.{List, [], foldl}
+-- `program::declarations` meets its contract. The invariant: from `from` on, with the declarations that are done, the definition reads what it reads from `at` on. Assumes nothing.
+use mathlib.Core.Path.{_≡_, refl, sym, _∙_}
 use lib.ListN.{length}
-use borrow.Author.Tests.{not-true, not-false}
-use Rattle.syntax.specs.Tree.{Declaration}
-use Rattle.syntax.specs.State.{step, stateAfter}
-use Rattle.syntax.specs.Declarations.{parseDeclarations}
-use Rattle.declarations.specs.declared.Ends.{Ends}
-use Rattle.declarations.specs.declared.State.{State}
-use Rattle.declarations.specs.States.{endOf, Declared}
-use borrow.Author.Needs.{needs}
-use Rattle.declarations.specs.Reads.{Reads}
 use native.Mathlib.Omega.{arith}
-use Rattle.declarations.proofs.Reading.{came, failed-as, Turning, turn-zero, turn-none, turn-failed, turn-next}
-use Rattle.declarations.proofs.Stating.{none-declared, more-declared}
-use Rattle.declarations.proofs.Dispatching.{declarationMore, declarations-first, declaration-none, declaration-some, declaration-got, declaration-failed}
+use borrow.Author.Tests.{not-true, not-false}
+use Rattle.syntax.specs.Declarations.{parseDeclarations}
+use Rattle.declarations.specs.States.{endOf, Declared}
+use Rattle.declarations.proofs.Reading.{Turning, turn-zero, turn-none, turn-failed, turn-next}
+use Rattle.declarations.proofs.Stating.{none-declared}
+use Rattle.declarations.proofs.Dispatching.{declarationMore, declarations-first, declaration-none, declaration-some, declaration-next}
+use borrow.Author.Needs.{needs}
 use Rattle.declarations.proofs.program.declarations.Statement.{statement}
 use Rattle.declarations.proofs.program.declarations.Tie as tie
 
-record Inv (source table₀ image₀ : List ℕ) (plan : Ends) (at : ℕ) (state₀ : State) (table image : List ℕ) (state : State) (from left : ℕ) : Type 0 where
-  done : List Declaration
-  turning : Turning (declarationMore source) (parseDeclarations source at) done from left
-  declared : Declared (endOf plan) state₀ table₀ image₀ state table image done
-  long : length table ≡ length table₀
-  wide : length image ≡ length image₀
-
 abbrev Inv-loop : tie.InvT-loop
-Inv-loop source table₀ image₀ plan at current₀ from₀ left₀ table image current from left = Inv source table₀ image₀ plan at current₀ table image current from left
+Inv-loop source table₀ image₀ plan at current₀ from₀ left₀ table image current from left =
+    Turning (declarationMore source) (parseDeclarations source at) (Declared (endOf plan) current₀ table₀ image₀ current table image) from left
+    × (length table ≡ length table₀) × (length image ≡ length image₀)
 
 abbrev μ-loop : tie.MeasureT-loop
 μ-loop source table₀ image₀ plan at current₀ from₀ left₀ table image current from left = left
 
 loop-holds : tie.Need-loop-holds Inv-loop μ-loop
-loop-holds c = record { done = []; turning = declarations-first _ _; declared = none-declared _ _ _ _ (c .before .before .before .pre .0 .sound); long = refl; wide = refl }
+loop-holds c = (declarations-first _ _ (none-declared _ _ _ _ (c .before .before .before .pre .0 .sound)), refl, refl)
 
 token-at-requires : tie.Need-token-at-requires Inv-loop μ-loop
 token-at-requires c κs = search needs
 
 same-length : tie.Need-same-length Inv-loop μ-loop
-same-length c = c .before .before .loop .inv .long
+same-length c = c .before .before .loop .inv .1
 
 same-length-2 : tie.Need-same-length-2 Inv-loop μ-loop
-same-length-2 c = c .before .before .loop .inv .wide
+same-length-2 c = c .before .before .loop .inv .2
 
 returns : tie.Need-returns Inv-loop μ-loop
-returns c =
-    let l = c .before .before .loop .inv in
-    Reads.read (turn-zero (l .turning) (c .if1 .taken)) refl (l .declared)
+returns c = turn-zero (c .before .before .loop .inv .0) (c .if1 .taken)
 
 begins-requires : tie.Need-begins-requires Inv-loop μ-loop
 begins-requires c κs = search needs
 
 same-length-3 : tie.Need-same-length-3 Inv-loop μ-loop
-same-length-3 c = c .before .before .before .before .loop .inv .long
+same-length-3 c = c .before .before .before .before .loop .inv .1
 
 same-length-4 : tie.Need-same-length-4 Inv-loop μ-loop
-same-length-4 c = c .before .before .before .before .loop .inv .wide
+same-length-4 c = c .before .before .before .before .loop .inv .2
 
 returns-2 : tie.Need-returns-2 Inv-loop μ-loop
-returns-2 c =
-    let l = c .before .before .before .before .loop .inv in
-    Reads.read (turn-none (l .turning) (declaration-none _ _ _ (c .before .before .before .token-at .ensures) (sym (c .before .begins .ensures) ∙ not-true _ (c .if2 .taken)))) refl (l .declared)
+returns-2 c = turn-none (c .before .before .before .before .loop .inv .0) (declaration-none _ _ _ (c .before .before .before .token-at .ensures) (sym (c .before .begins .ensures) ∙ not-true _ (c .if2 .taken)))
 
 declaration-requires : tie.Need-declaration-requires Inv-loop μ-loop
-declaration-requires c κs = let l = c .before .before .before .before .before .before .loop .inv in let p = c .before .before .before .before .before .before .before .before .before .before .pre .1 in (l .declared .sound, omega (arith, p, l .long))
+declaration-requires c κs = let l = c .before .before .before .before .before .before .loop .inv in let p = c .before .before .before .before .before .before .before .before .before .before .pre .1 in (l .0 .holds .sound, omega (arith, p, l .1))
 
 enum-known-part : tie.Need-enum-known-part Inv-loop μ-loop
 enum-known-part c = search needs
@@ -73,17 +57,13 @@ enum-told : tie.Need-enum-told Inv-loop μ-loop
 enum-told c = search needs
 
 same-length-5 : tie.Need-same-length-5 Inv-loop μ-loop
-same-length-5 c = c .before .before .before .before .before .before .declaration .kept .1 .0 ∙ c .before .before .before .before .before .before .before .before .before .before .before .before .before .loop .inv .long
+same-length-5 c = c .before .before .before .before .before .before .declaration .kept .1 .0 ∙ c .before .before .before .before .before .before .before .before .before .before .before .before .before .loop .inv .1
 
 same-length-6 : tie.Need-same-length-6 Inv-loop μ-loop
-same-length-6 c = c .before .before .before .before .before .before .declaration .kept .1 .1 .0 ∙ c .before .before .before .before .before .before .before .before .before .before .before .before .before .loop .inv .wide
+same-length-6 c = c .before .before .before .before .before .before .declaration .kept .1 .1 .0 ∙ c .before .before .before .before .before .before .before .before .before .before .before .before .before .loop .inv .2
 
 returns-3 : tie.Need-returns-3 Inv-loop μ-loop
-unfolding stateAfter
-returns-3 c =
-    let l = c .before .before .before .before .before .before .before .before .before .before .before .before .before .loop .inv in
-    let starts = l .declared .state ∙ ap (λ x. foldl step x (l .done)) (c .before .before .before .before .before .before .before .before .before .before .before .before .before .before .before .before .before .pre .0 .state (c .before .before .before .before .before .before .before .before .before .before .before .before .before .before .before .before .before .args .table .now)) in
-    Reads.fails (turn-failed (l .turning) (c .before .before .before .before .before .before .before .before .before .before .before .if1 .left) (declaration-some _ _ _ (c .before .before .before .before .before .before .before .before .before .before .before .before .token-at .ensures) (sym (c .before .before .before .before .before .before .before .before .before .before .begins .ensures) ∙ not-false _ (c .before .before .before .before .before .before .before .before .before .if2 .left))) (declaration-failed _ (l .done) _ starts (failed-as (c .before .before .before .before .before .before .declaration .ensures) (c .enum-told .given .1)))) (c .enum-told .given .1)
+returns-3 c = let l = c .before .before .before .before .before .before .before .before .before .before .before .before .before .loop .inv in turn-failed (l .0) (c .before .before .before .before .before .before .before .before .before .before .before .if1 .left) (declaration-some _ _ _ (c .before .before .before .before .before .before .before .before .before .before .before .before .token-at .ensures) (sym (c .before .before .before .before .before .before .before .before .before .before .begins .ensures) ∙ not-false _ (c .before .before .before .before .before .before .before .before .before .if2 .left))) (declaration-next _ _ (c .before .before .before .before .before .before .before .before .before .before .before .before .before .before .before .before .before .pre .0 .state (c .before .before .before .before .before .before .before .before .before .before .before .before .before .before .before .before .before .args .table .now)) (l .0 .holds) (c .before .before .before .before .before .before .declaration .ensures)) (c .enum-told .given .1)
 
 sub-left : tie.Need-sub-left Inv-loop μ-loop
 sub-left c = search needs
@@ -92,18 +72,9 @@ loop-less : tie.Need-loop-less Inv-loop μ-loop
 loop-less c = search needs
 
 loop-again : tie.Need-loop-again Inv-loop μ-loop
-unfolding stateAfter
 loop-again c =
     let l = c .before .before .before .before .before .before .before .before .before .before .before .before .before .before .before .loop .inv in
-    let starts = l .declared .state ∙ ap (λ x. foldl step x (l .done)) (c .before .before .before .before .before .before .before .before .before .before .before .before .before .before .before .before .before .before .before .pre .0 .state (c .before .before .before .before .before .before .before .before .before .before .before .before .before .before .before .before .before .before .before .args .table .now)) in
-    let r = came (c .before .before .before .before .before .before .before .before .declaration .ensures) (c .before .before .part .given .1) in
-    record {
-      done = _;
-      turning = turn-next (l .turning) (c .before .before .before .before .before .before .before .before .before .before .before .before .before .if1 .left) (declaration-some _ _ _ (c .before .before .before .before .before .before .before .before .before .before .before .before .before .before .token-at .ensures) (sym (c .before .before .before .before .before .before .before .before .before .before .before .before .begins .ensures) ∙ not-false _ (c .before .before .before .before .before .before .before .before .before .before .before .if2 .left))) (declaration-got _ (l .done) _ starts (r .parsed));
-      declared = more-declared (l .declared) (r .does);
-      long = c .before .before .before .before .before .before .before .before .declaration .kept .1 .0 ∙ l .long;
-      wide = c .before .before .before .before .before .before .before .before .declaration .kept .1 .1 .0 ∙ l .wide;
-    }
+    (turn-next (l .0) (c .before .before .before .before .before .before .before .before .before .before .before .before .before .if1 .left) (declaration-some _ _ _ (c .before .before .before .before .before .before .before .before .before .before .before .before .before .before .token-at .ensures) (sym (c .before .before .before .before .before .before .before .before .before .before .before .before .begins .ensures) ∙ not-false _ (c .before .before .before .before .before .before .before .before .before .before .before .if2 .left))) (declaration-next _ _ (c .before .before .before .before .before .before .before .before .before .before .before .before .before .before .before .before .before .before .before .pre .0 .state (c .before .before .before .before .before .before .before .before .before .before .before .before .before .before .before .before .before .before .before .args .table .now)) (l .0 .holds) (c .before .before .before .before .before .before .before .before .declaration .ensures)) (c .before .before .part .given .1), c .before .before .before .before .before .before .before .before .declaration .kept .1 .0 ∙ l .1, c .before .before .before .before .before .before .before .before .declaration .kept .1 .1 .0 ∙ l .2)
 
 pub declarations-spec : {M : Type 1} → statement M
 declarations-spec =

@@ -1,36 +1,29 @@
--- `values::values` meets its contract. The invariant: from `from` on, with the values `done`, the definition reads what it reads from `at` on. Assumes nothing.
+-- `values::values` meets its contract. The invariant: from `from` on, with the values that are done, the definition reads what it reads from `at` on. Assumes nothing.
 use mathlib.Core.Path.{_≡_, refl, _∙_}
-use Prim.Native.Nat.{ℕ}
-use mathlib.Core.List.{List, []}
+use mathlib.Core.List.{[]}
 use lib.ListN.{length}
+use native.Mathlib.Omega.{arith}
 use Rattle.source.specs.Kinds
 use Rattle.syntax.specs.Parse.{parted}
 use Rattle.syntax.specs.Declarations.{parseInitial}
 use Rattle.symbols.specs.Table.{heldBy}
 use Rattle.declarations.specs.Arrays.{Filled}
-use Rattle.declarations.specs.Reads.{Reads}
-use native.Mathlib.Omega.{arith}
 use Rattle.declarations.proofs.Reading.{with-read, with-failed, Listing, list-first, list-failed, list-zero, list-last, list-next}
-use Rattle.declarations.proofs.Arraying.{initial-failed, initial-got, value-room, none-filled, more-filled}
+use Rattle.declarations.proofs.Arraying.{value-room, none-filled, value-next, value-fails}
 use borrow.Author.Needs.{needs}
 use Rattle.declarations.proofs.values.values.Statement.{statement}
 use Rattle.declarations.proofs.values.values.Tie as tie
 
-record Inv (source table image₀ : List ℕ) (names first size at : ℕ) (image : List ℕ) (count from left : ℕ) : Type 0 where
-  done : List ℕ
-  listing : Listing source Kinds.comma (parseInitial source (heldBy names table) size)
-      (parted source Kinds.comma (parseInitial source (heldBy names table) size []) (parseInitial source (heldBy names table) size) at) done from left
-  filled : Filled first size image₀ count image done
-  wide : length image ≡ length image₀
-
 abbrev Inv-loop : tie.InvT-loop
-Inv-loop source table image₀ names first size at count₀ from₀ left₀ image count from left = Inv source table image₀ names first size at image count from left
+Inv-loop source table image₀ names first size at count₀ from₀ left₀ image count from left =
+    Listing source Kinds.comma (parseInitial source (heldBy names table) size) (parted source Kinds.comma (parseInitial source (heldBy names table) size []) (parseInitial source (heldBy names table) size) at) (Filled first size image₀ count image) from left
+    × (length image ≡ length image₀)
 
 abbrev μ-loop : tie.MeasureT-loop
 μ-loop source table image₀ names first size at count₀ from₀ left₀ image count from left = left
 
 loop-holds : tie.Need-loop-holds Inv-loop μ-loop
-loop-holds c = record { done = []; listing = list-first _ _ _ _ _; filled = none-filled _ _ _; wide = refl }
+loop-holds c = (list-first _ _ _ [] _ (none-filled _ _ _), refl)
 
 initial-value-requires : tie.Need-initial-value-requires Inv-loop μ-loop
 initial-value-requires c κs = search needs
@@ -42,12 +35,10 @@ enum-told : tie.Need-enum-told Inv-loop μ-loop
 enum-told c = search needs
 
 same-length : tie.Need-same-length Inv-loop μ-loop
-same-length c = c .before .before .before .loop .inv .wide
+same-length c = c .before .before .before .loop .inv .1
 
 returns : tie.Need-returns Inv-loop μ-loop
-returns c =
-    let l = c .before .before .before .loop .inv in
-    Reads.fails (list-failed (l .listing) (initial-failed _ _ _ _ _ (l .filled .counted) (with-failed _ (c .before .before .initial-value .ensures) (c .enum-told .given .1)))) (c .enum-told .given .1)
+returns c = let l = c .before .before .before .loop .inv in list-failed (l .0) (value-fails _ _ _ (l .0 .holds) (with-failed _ (c .before .before .initial-value .ensures) (c .enum-told .given .1)) (c .enum-told .given .1)) (c .enum-told .given .1)
 
 cast-store : tie.Need-cast-store Inv-loop μ-loop
 cast-store c = search needs
@@ -65,26 +56,22 @@ token-at-requires : tie.Need-token-at-requires Inv-loop μ-loop
 token-at-requires c κs = search needs
 
 same-length-2 : tie.Need-same-length-2 Inv-loop μ-loop
-same-length-2 c = c .before .before .before .before .store .kept .0 ∙ c .before .before .before .before .before .before .before .before .before .before .loop .inv .wide
+same-length-2 c = c .before .before .before .before .store .kept .0 ∙ c .before .before .before .before .before .before .before .before .before .before .loop .inv .1
 
 returns-2 : tie.Need-returns-2 Inv-loop μ-loop
 returns-2 c =
     let l = c .before .before .before .before .before .before .before .before .before .before .loop .inv in
-    let one = with-read (c .before .before .before .before .before .before .before .before .before .initial-value .ensures) (c .before .before .before .before .before .before .before .part .given .1) in
-    let got = initial-got _ _ _ _ _ (l .filled .counted) one in
-    let f = more-filled _ (l .filled) (value-room _ _ _ _ _ one) (c .before .before .before .before .store .ensures) in
-    Reads.read (list-zero (l .listing) got (c .if1 .taken)) refl f
+    let one = value-next _ _ _ (l .0 .holds) (with-read (c .before .before .before .before .before .before .before .before .before .initial-value .ensures) (c .before .before .before .before .before .before .before .part .given .1)) refl (c .before .before .before .before .store .ensures) in
+    list-zero (l .0) one refl (c .if1 .taken)
 
 same-length-3 : tie.Need-same-length-3 Inv-loop μ-loop
-same-length-3 c = c .before .before .before .before .before .before .store .kept .0 ∙ c .before .before .before .before .before .before .before .before .before .before .before .before .loop .inv .wide
+same-length-3 c = c .before .before .before .before .before .before .store .kept .0 ∙ c .before .before .before .before .before .before .before .before .before .before .before .before .loop .inv .1
 
 returns-3 : tie.Need-returns-3 Inv-loop μ-loop
 returns-3 c =
     let l = c .before .before .before .before .before .before .before .before .before .before .before .before .loop .inv in
-    let one = with-read (c .before .before .before .before .before .before .before .before .before .before .before .initial-value .ensures) (c .before .before .before .before .before .before .before .before .before .part .given .1) in
-    let got = initial-got _ _ _ _ _ (l .filled .counted) one in
-    let f = more-filled _ (l .filled) (value-room _ _ _ _ _ one) (c .before .before .before .before .before .before .store .ensures) in
-    Reads.read (list-last (l .listing) got (c .before .before .before .token-at .ensures) (c .if2 .taken)) refl f
+    let one = value-next _ _ _ (l .0 .holds) (with-read (c .before .before .before .before .before .before .before .before .before .before .before .initial-value .ensures) (c .before .before .before .before .before .before .before .before .before .part .given .1)) refl (c .before .before .before .before .before .before .store .ensures) in
+    list-last (l .0) one refl (c .before .before .before .token-at .ensures) (c .if2 .taken)
 
 sub-left : tie.Need-sub-left Inv-loop μ-loop
 sub-left c = search needs
@@ -95,10 +82,8 @@ loop-less c = search needs
 loop-again : tie.Need-loop-again Inv-loop μ-loop
 loop-again c =
     let l = c .before .before .before .before .before .before .before .before .before .before .before .before .loop .inv in
-    let one = with-read (c .before .before .before .before .before .before .before .before .before .before .before .initial-value .ensures) (c .before .before .before .before .before .before .before .before .before .part .given .1) in
-    let got = initial-got _ _ _ _ _ (l .filled .counted) one in
-    let f = more-filled _ (l .filled) (value-room _ _ _ _ _ one) (c .before .before .before .before .before .before .store .ensures) in
-    record { done = _; listing = list-next (l .listing) got (c .before .before .before .token-at .ensures) (c .before .before .if1 .left) (c .if2 .left); filled = f; wide = c .before .before .before .before .before .before .store .kept .0 ∙ l .wide }
+    let one = value-next _ _ _ (l .0 .holds) (with-read (c .before .before .before .before .before .before .before .before .before .before .before .initial-value .ensures) (c .before .before .before .before .before .before .before .before .before .part .given .1)) (c .before .before .before .before .before .before .before .before .before .part .given .1) (c .before .before .before .before .before .before .store .ensures) in
+    (list-next (l .0) one (c .before .before .before .before .before .before .before .before .before .part .given .1) (c .before .before .before .token-at .ensures) (c .before .before .if1 .left) (c .if2 .left), c .before .before .before .before .before .before .store .kept .0 ∙ l .1)
 
 pub values-spec : {M : Type 1} → statement M
 values-spec =
