@@ -24,31 +24,15 @@ use Rattle.declarations.specs.Reads.{Reads}
 use Rattle.declarations.specs.States.{endOf, withEnd}
 use Rattle.declarations.specs.Procedures.{programIn, Compiled}
 use Rattle.declarations.proofs.Plans.{each-end}
+use Rattle.declarations.proofs.Reading.{Came, failed-as, never}
 use Rattle.compiler.specs.declared.Answer.{Answer}
 use Rattle.compiler.specs.Compile.{resultOn, answerOf, imageAfter}
 use Rattle.compiler.specs.Passes.{countedOf}
 
--- ---- A part that is read
-
-pub record Came {A : Type 0} (done : A → Type 0) (g : Got A) : Type 0 where
-  pub tree : A
-  pub next : ℕ
-  pub is : g ≡ got tree next
-  pub finished : done tree
-
-module _ {A : Type 0} {done : A → Type 0} {part : Part} {g : Got A} where
-  pub came : {n : ℕ} → Reads done part g → part ≡ Part.Read n → Came done g
-  came (Reads.read {t = t} {n = n} e p d) q = record { tree = t; next = n; is = e; finished = d }
-  came (Reads.fails e p) q = let z : _≡_ {A = ℕ} 0 1 = cc in absurd (omega arith)
-
-  fails-as : {k at : ℕ} → Reads done part g → part ≡ Part.Failed k at → g ≡ failed k at
-  fails-as (Reads.read e p d) q = let z : _≡_ {A = ℕ} 0 1 = cc in absurd (omega arith)
-  fails-as (Reads.fails e p) q = cc
-
-  -- a second reading does what the first found
-  again : (t : A) (n : ℕ) → g ≡ got t n → Reads done part g → done t
-  again t n e (Reads.read {t = u} q p d) = let same : u ≡ t = cc in rw same at d
-  again t n e (Reads.fails q p) = let z : _≡_ {A = ℕ} 0 1 = cc in absurd (omega arith)
+-- a second reading does what the first found
+again : {A : Type 0} {done : A → Type 0} {part : Part} {g : Got A} (t : A) (n : ℕ) → g ≡ got t n → Reads done part g → done t
+again t n e (Reads.read {t = u} q p d) = let same : u ≡ t = cc in rw same at d
+again t n e (Reads.fails q p) = absurd (never e q)
 
 -- ---- The definition's result
 
@@ -66,7 +50,7 @@ module _ (source : List ℕ) (short : length source ≤ 8192) where
       → (Answer.Failed k at ≡ answerOf (compileDef source)) × (lent ++ image ≡ imageAfter (compileDef source) image)
   unfolding resultOf answerOf imageAfter
   failed-pass {k = k} {at = at} [] image h r p =
-      let e : compileDef source ≡ Result.failed k at = result ∙ ap resultOf (fails-as r p) in (rw e, rw e)
+      let e : compileDef source ≡ Result.failed k at = result ∙ ap resultOf (failed-as r p) in (rw e, rw e)
   failed-pass (x ∷ xs) image h r p = absurd (omega arith)
 
   module _ (p : Program) (n : ℕ) (is : programIn source ≡ got p n) where
@@ -96,12 +80,12 @@ module _ (source : List ℕ) (short : length source ≤ 8192) where
           again p n is second .laid ∙ ap (λ (f : ℕ → ℕ). emitProgram f p cleared) (fun-ext (ends l)) ∙ ap (λ (i : List ℕ). emitProgram (λ k. planOf p k .poolAt) p i) z
           ∙ emitted-image source p n (same ∙ is) ∙ sym (ap (λ e. imageAfter e image₀) accepted)
 
-  pub accepted-pass : (r : ProgramAnswer) {plan plan' : Ends} {image table image' table' cleared laid' : List ℕ} {s' : State} {end' : Output} {part' : Part} {answer : Answer} (image₀ : List ℕ)
-      → Came (Compiled plan image (r .state) (r .end) table image') (programIn source) → plan' ≡ withEnd (r .state .ends) (r .end .code) → cleared ≡ replicate 16384 0
+  pub accepted-pass : (r : ProgramAnswer) {plan plan' : Ends} {image table image' table' cleared laid' : List ℕ} {s' : State} {end' : Output} {part' : Part} {answer : Answer} {n : ℕ} (image₀ : List ℕ)
+      → Came (Compiled plan image (r .state) (r .end) table image') (programIn source) n → plan' ≡ withEnd (r .state .ends) (r .end .code) → cleared ≡ replicate 16384 0
       → Reads (Compiled plan' cleared s' end' table' laid') part' (programIn source) → answer ≡ countedOf r
       → (answer ≡ answerOf (compileDef source)) × (laid' ≡ imageAfter (compileDef source) image₀)
-  accepted-pass r image₀ first l z second e =
-      (e ∙ counted (first .tree) (first .next) (first .is) r (first .finished), laid (first .tree) (first .next) (first .is) r (first .finished) image₀ l z second)
+  accepted-pass r {n = n} image₀ first l z second e =
+      (e ∙ counted (first .tree) n (first .parsed) r (first .does), laid (first .tree) n (first .parsed) r (first .does) image₀ l z second)
 
 -- ---- The lengths
 

@@ -2,7 +2,7 @@
 use Prim.Native.Nat.{ℕ, _≤_}
 use mathlib.Core.Path.{_≡_, refl, sym, ap, _∙_}
 use mathlib.Core.Bool.{Bool, true, false, _&&_}
-use mathlib.Core.List.{List, [], _∷_, _++_, foldl, append-assoc, append-nil}
+use mathlib.Core.List.{List, [], _∷_, _++_, foldl, foldl-append, append-assoc, append-nil}
 use mathlib.Core.Option.{Option, none, some}
 use native.Mathlib.Omega.{arith}
 use borrow.Author.Tests.{eq-eqb, ne-eqb, eqb-true, eqb-false, leb-true, leb-false}
@@ -31,7 +31,6 @@ use Rattle.declarations.specs.Forms.{declarationsOf, begins, itemsIn, ar
 use Rattle.declarations.specs.Procedures.{wordOf, mainIn}
 use Rattle.declarations.proofs.Locals.{word-none}
 use Rattle.declarations.proofs.Reading.{Turning, reads-as}
-use Rattle.declarations.proofs.Scoping.{fold-append}
 use Rattle.declarations.proofs.Stating.{more-declared}
 use Rattle.declarations.proofs.Mapping.{mapped, then-mapped, map-list}
 
@@ -55,7 +54,7 @@ within-into limit t x y h e = go (eqb limit 0)
 
 pub after-more : (ds new : List Declaration) → foldl step (stateAfter ds) new ≡ stateAfter (ds ++ new)
 unfolding stateAfter
-after-more ds new = sym (fold-append step start ds new)
+after-more ds new = sym (foldl-append step start ds new)
 
 pub items-state : (st : State) (a : List (Name × Item)) → foldl step st (declarationsOf a) ≡ withScope st (foldl declareItem (st .scope) a)
 unfolding declarationsOf step

@@ -1,7 +1,7 @@
 -- Locals, list after list. Assumes nothing.
 use Prim.Native.Nat.{ℕ}
 use mathlib.Core.Path.{_≡_, refl, sym, ap, _∙_}
-use mathlib.Core.List.{List, [], _∷_, _++_, foldl, append-assoc, append-nil}
+use mathlib.Core.List.{List, [], _∷_, _++_, foldl, foldl-append, append-assoc, append-nil}
 use mathlib.Core.Option.{Option, none, some}
 use borrow.Author.Tests.{eq-eqb, ne-eqb}
 use lib.Dec.{eqb}
@@ -22,7 +22,7 @@ use Rattle.declarations.specs.Reads.{Reads}
 use Rattle.declarations.specs.Scopes.{scopeOf, Scoped}
 use Rattle.declarations.specs.Procedures.{wordOf}
 use Rattle.declarations.proofs.Reading.{Turning, reads-as}
-use Rattle.declarations.proofs.Scoping.{fold-append, more-scoped}
+use Rattle.declarations.proofs.Scoping.{more-scoped}
 use Rattle.declarations.proofs.Mapping.{mapped, then-mapped, map-list}
 
 -- ---- The word of a token
@@ -75,7 +75,7 @@ module _ (source : List ℕ) (scope : Scope) (word : ItemWord) (done : List (Nam
   one-more : (a : List (Name × Item)) (n : ℕ) → parseLocal source scope word (done ++ a) n ≡ mapped (λ items. done ++ items) (parseLocal source (foldl declareItem scope done) word a n)
   unfolding parseLocal andThen
   one-more a n =
-      ap (λ s. andThen (parseItem source word s n) (λ item next. got (snoc (done ++ a) item) next)) (fold-append declareItem scope done a)
+      ap (λ s. andThen (parseItem source word s n) (λ item next. got (snoc (done ++ a) item) next)) (foldl-append declareItem scope done a)
       ∙ then-mapped (λ items. done ++ items) (parseItem source word (foldl declareItem (foldl declareItem scope done) a) n) (λ item next. got (snoc a item) next) (λ item next. got (snoc (done ++ a) item) next)
       (λ x m. ap (λ l. got l m) (append-assoc done a (x ∷ [])))
 

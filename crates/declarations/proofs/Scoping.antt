@@ -1,7 +1,7 @@
 -- Items declared and laid, one after another. Assumes nothing.
 use Prim.Native.Nat.{ℕ, zero, suc, _+_, _*_, _≤_, _<_}
 use mathlib.Core.Path.{_≡_, refl, sym, ap, ap₂, _∙_}
-use mathlib.Core.List.{List, [], _∷_, _++_, foldl, append-assoc, append-nil}
+use mathlib.Core.List.{List, [], _∷_, _++_, foldl, foldl-append, append-assoc, append-nil}
 use native.Mathlib.Omega.{arith}
 use lib.ListN.{length, set, take, length-append}
 use lib.Seq.{take-take}
@@ -29,10 +29,6 @@ use Rattle.declarations.proofs.Reading.{then-got, then-failed, then-inv
 use Rattle.declarations.proofs.Naming.{name-room, limit-same}
 
 -- ---- Lists
-
-pub fold-append : {A B : Type 0} (f : A → B → A) (a : A) (xs ys : List B) → foldl f a (xs ++ ys) ≡ foldl f (foldl f a xs) ys
-fold-append f a [] ys = refl
-fold-append f a (x ∷ xs) ys = fold-append f (f a x) xs ys
 
 pub take-less : (m n : ℕ) (a b : List ℕ) → m ≤ n → take n a ≡ take n b → take m a ≡ take m b
 take-less m n a b h e = sym (take-take m n a h) ∙ ap (take m) e ∙ take-take m n b h
@@ -121,7 +117,7 @@ module _ {s s' s'' : code.Scope} {t t' t'' i i' i'' : List ℕ} {xs ys : List (N
       let w = ap (λ x. x .words) (p .scope) ∙ fold-words (scopeOf s t) xs in
       let at : s' .base + s' .words ≡ (s .base + s .words) + length (localValues xs) = omega (arith, b, w) in
       record {
-        scope = q .scope ∙ ap (λ x. foldl declareItem x ys) (p .scope) ∙ sym (fold-append declareItem (scopeOf s t) xs ys);
+        scope = q .scope ∙ ap (λ x. foldl declareItem x ys) (p .scope) ∙ sym (foldl-append declareItem (scopeOf s t) xs ys);
         room = q .room;
         level = q .level ∙ p .level;
         base = q .base ∙ p .base;

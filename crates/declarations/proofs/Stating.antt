@@ -1,7 +1,7 @@
 -- States, and declarations one after another. Assumes nothing.
 use Prim.Native.Nat.{ℕ, suc, _+_, _*_, _≤_, _<_}
 use mathlib.Core.Path.{_≡_, refl, sym, ap, ap₂, _∙_}
-use mathlib.Core.List.{List, [], _∷_, _++_, foldl}
+use mathlib.Core.List.{List, [], _∷_, _++_, foldl, foldl-append}
 use native.Mathlib.Omega.{arith}
 use native.Mathlib.Numerals.{add-one}
 use lib.ListN.{length, getD, set, take, replicate, length-replicate, replicate-append-replicate}
@@ -17,7 +17,7 @@ use Rattle.declarations.specs.declared.State.{State}
 use Rattle.emitter.specs.declared.Output.{Output}
 use Rattle.declarations.specs.States.{endsOf, withEnd, poolOf, stateOf, Sound, Declared, Moved}
 use Rattle.declarations.proofs.Plans.{ends-length, one-end, one-closed}
-use Rattle.declarations.proofs.Scoping.{fold-append, stored-append}
+use Rattle.declarations.proofs.Scoping.{stored-append}
 
 -- ---- Words stored one after another
 
@@ -52,7 +52,7 @@ module _ {ends : ℕ → ℕ} {s s' s'' : State} {t t' t'' i i' i'' : List ℕ} 
   pub more-declared : Declared ends s t i s' t' i' xs → Declared ends s' t' i' s'' t'' i'' ys → Declared ends s t i s'' t'' i'' (xs ++ ys)
   more-declared p q =
       record {
-        state = q .state ∙ ap (λ x. foldl states.step x ys) (p .state) ∙ sym (fold-append states.step (stateOf s t) xs ys);
+        state = q .state ∙ ap (λ x. foldl states.step x ys) (p .state) ∙ sym (foldl-append states.step (stateOf s t) xs ys);
         sound = q .sound;
         laid = q .laid ∙ ap₂ (λ x y. emitDeclarations ends x ys y) (p .state) (p .laid) ∙ sym (emit-append ends (stateOf s t) xs ys i);
       }

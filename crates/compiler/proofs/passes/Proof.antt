@@ -1,7 +1,8 @@
 -- `passes` meets its contract. Assumes nothing.
 use mathlib.Core.Path.{ap, _∙_}
 use lib.ListN.{replicate}
-use Rattle.compiler.proofs.Readings.{came, failed-pass, accepted-pass}
+use Rattle.declarations.proofs.Reading.{came}
+use Rattle.compiler.proofs.Readings.{failed-pass, accepted-pass}
 use borrow.Author.Needs.{needs}
 use Rattle.compiler.proofs.passes.Statement.{statement}
 use Rattle.compiler.proofs.passes.Tie as tie
@@ -37,7 +38,7 @@ enum-told : tie.Need-enum-told
 enum-told c = search needs
 
 with-end-requires : tie.Need-with-end-requires
-with-end-requires c κs = came (c .before .before .before .before .before .before .before .before .before .program .ensures) (c .before .before .before .enum-told .given .1) .finished .sound .ends .last
+with-end-requires c κs = came (c .before .before .before .before .before .before .before .before .before .program .ensures) (c .before .before .before .enum-told .given .1) .does .sound .ends .last
 
 clear-requires : tie.Need-clear-requires
 clear-requires c κs = search needs
