@@ -9,7 +9,7 @@ use cells::Part;
 use declarations::Ends;
 use declarations::ProgramAnswer;
 use declarations::program::program;
-use declarations::sectors::with_end;
+use declarations::with_end;
 use emitter::held_count;
 use symbols::clear;
 

@@ -1,9 +1,10 @@
 -- The code ends: those that count, and zeros after them. Assumes nothing.
 use Prim.Native.Nat.{ℕ, zero, suc, _+_, _-_, _≤_}
-use mathlib.Core.Path.{_≡_, refl, sym, ap, _∙_}
+use mathlib.Core.Path.{_≡_, refl, sym, ap, ap₂, _∙_}
 use mathlib.Core.List.{List, [], _∷_, _++_, append-assoc}
 use native.Mathlib.Numerals.{add-one}
 use native.Mathlib.Omega.{arith}
+use borrow.Author.Tests.{lt-ltb}
 use lib.ListN.{length, getD, set, replicate, length-set}
 use lib.Seq.{length-take-le, take-suc-set, set-at}
 use Rattle.declarations.specs.declared.Ends.{Ends}
@@ -25,8 +26,15 @@ module _ {e : Ends} (h : Closed e) where
   ends-length = let l = h .long in let n = h .last in length-take-le (e .count) (e .codes) (omega (arith, l, n))
 
   module _ (code : ℕ) where
+    with-one : withEnd e code ≡ record { codes = set (e .codes) (e .count) code; count = e .count + 1 }
+    unfolding withEnd
+    with-one = let n = h .last in rw (lt-ltb (e .count) 32 (omega (arith, n)))
+
+    pub one-count : withEnd e code .count ≡ e .count + 1
+    one-count = ap (λ x. x .count) with-one
+
     pub one-end : endsOf (withEnd e code) ≡ endsOf e ++ (code ∷ [])
-    one-end = let l = h .long in let n = h .last in rw add-one (take-suc-set (e .codes) (e .count) code (omega (arith, l, n)))
+    one-end = let l = h .long in let n = h .last in ap endsOf with-one ∙ rw add-one (take-suc-set (e .codes) (e .count) code (omega (arith, l, n)))
 
     -- zeros after the new end too
     one-more : withEnd e code .codes ≡ (endsOf e ++ (code ∷ [])) ++ replicate (32 - (e .count + 1)) 0
@@ -34,12 +42,17 @@ module _ {e : Ends} (h : Closed e) where
         let n = h .last in
         let q : 32 - e .count ≡ suc (32 - (e .count + 1)) = omega (arith, n) in
         let so-far : e .codes ≡ endsOf e ++ (0 ∷ replicate (32 - (e .count + 1)) 0) = h .spare ∙ ap (λ m. endsOf e ++ replicate m 0) q in
-        ap (λ x. set x (e .count) code) so-far ∙ set-at (endsOf e) 0 (replicate (32 - (e .count + 1)) 0) code (e .count) ends-length
+        ap (λ x. x .codes) with-one ∙ ap (λ x. set x (e .count) code) so-far ∙ set-at (endsOf e) 0 (replicate (32 - (e .count + 1)) 0) code (e .count) ends-length
         ∙ sym (append-assoc (endsOf e) (code ∷ []) (replicate (32 - (e .count + 1)) 0))
 
     pub one-closed : e .count + 1 ≤ 30 → Closed (withEnd e code)
     one-closed few =
-        record { last = few; long = length-set (e .codes) (e .count) code ∙ h .long; spare = one-more ∙ ap (λ x. x ++ replicate (32 - (e .count + 1)) 0) (sym one-end) }
+        let c = one-count in
+        record {
+          last = omega (arith, few, c);
+          long = ap (λ x. length (x .codes)) with-one ∙ length-set (e .codes) (e .count) code ∙ h .long;
+          spare = one-more ∙ ap₂ (λ x m. x ++ replicate (32 - m) 0) (sym one-end) (sym c);
+        }
 
     -- where each sector's code ends
     pub each-end : (k : ℕ) → endOf (withEnd e code) k ≡ getD (endsOf e ++ (code ∷ [])) k 0

@@ -16,7 +16,7 @@ use Rattle.declarations.specs.declared.Ends.{Ends}
 use Rattle.declarations.specs.declared.State.{State}
 use Rattle.emitter.specs.declared.Output.{Output}
 use Rattle.declarations.specs.States.{endsOf, withEnd, poolOf, stateOf, Sound, Declared, Moved}
-use Rattle.declarations.proofs.Plans.{ends-length, one-end, one-closed}
+use Rattle.declarations.proofs.Plans.{ends-length, one-count, one-end, one-closed}
 use Rattle.declarations.proofs.Scoping.{stored-append}
 
 -- ---- Words stored one after another
@@ -67,7 +67,7 @@ next-moved s image image' ends output h few e code pool laid =
     let l = ends-length (h .ends) in
     let c : output .code ≡ 512 * suc (suc (length (endsOf (s .ends)))) = omega (arith, code, l) in
     let n = ap length pool in
-    let count : ends .count ≡ s .ends .count + 1 = ap (λ x. x .count) e in
+    let count : ends .count ≡ s .ends .count + 1 = ap (λ x. x .count) e ∙ one-count (h .ends) (s .output .code) in
     record {
       at = λ table _. record {
         state = next-state table c pool (ap endsOf e ∙ one-end (h .ends) (s .output .code));

@@ -2,7 +2,7 @@
 use Prim.Native.Nat.{ℕ, _+_, _-_, _*_, _≤_}
 use mathlib.Core.Path.{_≡_}
 use mathlib.Core.List.{List, _++_, foldl}
-use lib.Dec.{leb}
+use lib.Dec.{leb, ltb}
 use lib.ListN.{length, getD, set, take, replicate}
 use Rattle.source.specs.Bytes.{whether}
 use Rattle.syntax.specs.Tree.{Declaration}
@@ -24,9 +24,9 @@ endsOf e = take (e .count) (e .codes)
 abbrev pub endOf : Ends → ℕ → ℕ
 endOf e k = getD (e .codes) k 0
 
--- one end more
-abbrev pub withEnd : Ends → ℕ → Ends
-withEnd e code = record { codes = set (e .codes) (e .count) code; count = e .count + 1 }
+-- one end more, while there is room
+unfoldable pub withEnd : Ends → ℕ → Ends
+withEnd e code = whether (ltb (e .count) 32) (λ _. record { codes = set (e .codes) (e .count) code; count = e .count + 1 }) (λ _. e)
 
 -- the ends of at most 30 closed sectors, and zeros after them, 32 words in all
 pub record Closed (e : Ends) : Type 0 where

@@ -1,4 +1,7 @@
 // Declarations: parsed, declared and emitted in one go.
+ghost use mathlib.Core.Path.{_≡_};
+ghost use Rattle.declarations.specs.States.{withEnd};
+
 mod arrays;
 mod frames;
 mod globals;
@@ -8,7 +11,7 @@ mod lists;
 mod names;
 mod procedures;
 pub mod program;
-pub mod sectors;
+mod sectors;
 mod values;
 
 use cells::Part;
@@ -105,4 +108,18 @@ pub struct ProgramAnswer {
 pub struct Answer {
     pub part: Part,
     pub state: State,
+}
+
+// One code end more, while there is room.
+pub fn with_end(ends: Ends, code: u16) -> Ends
+    ensures { λ r. ⌜ r ≡ withEnd ends code ⌝ }
+{
+    let count = ends.count;
+    if 32 <= count {
+        return ends;
+    }
+    let mut next = ends;
+    next.codes[count] = code;
+    next.count = count + 1;
+    next
 }

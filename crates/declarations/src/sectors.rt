@@ -7,13 +7,14 @@ ghost use Rattle.syntax.specs.Limits.{sectorLimit, followLimit};
 ghost use Rattle.emitter.specs.Emitted.{heldBy};
 ghost use Rattle.emitter.specs.Programs.{stored};
 ghost use Rattle.declarations.specs.Reads.{Reads};
-ghost use Rattle.declarations.specs.States.{endOf, withEnd, stateOf, Sound, Moved};
+ghost use Rattle.declarations.specs.States.{endOf, stateOf, Sound, Moved};
 ghost use Rattle.declarations.specs.Forms.{judgedIn};
 use crate::Answer;
 use crate::Ends;
 use crate::State;
 use crate::limits::judged;
 use crate::limits::sector_limit;
+use crate::with_end;
 use cells::Part;
 use cells::failures;
 use emitter::Output;
@@ -35,18 +36,6 @@ pub fn store_pool(image: &mut [u16], at: u16, pool: Pool)
         store(image, at as usize + i, words[i]);
         i += 1;
     }
-}
-
-// One closed sector's code end more.
-pub fn with_end(ends: Ends, code: u16) -> Ends
-    requires { ⌜ ends .count ≤ 30 ⌝ }
-    ensures { λ r. ⌜ r ≡ withEnd ends code ⌝ }
-{
-    let count = ends.count;
-    let mut next = ends;
-    next.codes[count] = code;
-    next.count = count + 1;
-    next
 }
 
 // Where the open sector's code ends by the plan.

@@ -38,7 +38,7 @@ enum-told : tie.Need-enum-told
 enum-told c = search needs
 
 with-end-requires : tie.Need-with-end-requires
-with-end-requires c κs = came (c .before .before .before .before .before .before .before .before .before .program .ensures) (c .before .before .before .enum-told .given .1) .does .sound .ends .last
+with-end-requires c κs = search needs
 
 clear-requires : tie.Need-clear-requires
 clear-requires c κs = search needs

@@ -9,7 +9,7 @@ store-pool-requires : tie.Need-store-pool-requires
 store-pool-requires c κs = search needs
 
 with-end-requires : tie.Need-with-end-requires
-with-end-requires c κs = c .before .before .before .before .before .before .before .before .pre .0 .ends .last
+with-end-requires c κs = search needs
 
 cast-t13 : tie.Need-cast-t13
 cast-t13 c = search needs
