@@ -8,7 +8,7 @@ use Rattle.syntax.specs.Parse.{Got, andThen, expect}
 use Rattle.syntax.specs.Parse.Got.{got, failed}
 use Rattle.syntax.specs.Emission.{Sym, _⧺_}
 use Rattle.cells.specs.declared.Part.{Part}
-use Rattle.cells.specs.Answers.{partOf, gotWith}
+use Rattle.cells.specs.Answers.{partOf}
 use Rattle.cells.proofs.Laws.{then-got, then-failed}
 use Rattle.emitter.specs.Emitted.{Emitted, Bases, emitAll}
 use Rattle.emitter.specs.Lays.{Code, Lays, Holed}
@@ -111,20 +111,7 @@ from-got {f = f} {words = words} {a = a} {b = b} {part = part} rest e c = rw (th
 pub put-as : {A : Type 0} {f : Bases} {words : A → Code} {a b : Emitted} {part : Part} {g g′ : Got A} → g′ ≡ g → Compiles f words a b part g → Compiles f words a b part g′
 put-as q c = rw q c
 
--- a leaf whose words are emitted in any case
-pub leaf : {A : Type 0} {f : Bases} {words : A → Code} {a b : Emitted} (part : Part) {g : Got A} (x : A)
-    → gotWith part x ≡ g → Lays f a b (words x) → Compiles f words a b part g
-unfolding gotWith
-leaf (Part.Read n) x e l = Compiles.read (sym e) refl l
-leaf (Part.Failed k o) x e l = Compiles.fails (sym e) refl
-
--- ---- Words emitted around a part
-
-module _ {A : Type 0} {f : Bases} {words words′ : A → Code} {a b a′ b′ : Emitted} {part : Part} {g : Got A} where
-  -- the same part with other words
-  pub kept : Compiles f words a b part g → ((t : A) → Lays f a b (words t) → Lays f a′ b′ (words′ t)) → Compiles f words′ a′ b′ part g
-  kept (Compiles.read {t = t} i p l) k = Compiles.read i p (k t l)
-  kept (Compiles.fails i p) k = Compiles.fails i p
+-- ---- Words emitted after a part
 
 module _ {f : Bases} {a b c : Emitted} where
   -- words after others

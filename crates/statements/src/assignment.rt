@@ -65,6 +65,9 @@ pub fn store(
 {
     let value = assigned(source, table, image, context, at, left, output);
     let part = value.part;
+    let Part::Read { next: _ } = part else {
+        return value;
+    };
     let held = value.output;
     let stored = emit_cell(image, context, held, code::STA, cell);
     Answer {
@@ -112,11 +115,14 @@ pub fn set_x(
         return Answer { part, output };
     };
     let found = lone_cell_at(source, table, context.names, next);
-    let found_part = found.part;
+    let part = found.part;
+    let Part::Read { next: _ } = part else {
+        return Answer { part, output };
+    };
     let cell = found.cell;
     let loaded = emit_cell(image, context, output, code::LDX, cell);
     Answer {
-        part: found_part,
+        part,
         output: loaded,
     }
 }

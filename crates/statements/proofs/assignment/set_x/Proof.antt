@@ -1,7 +1,8 @@
 -- `assignment::set_x` meets its contract. Assumes nothing.
+use Rattle.expressions.specs.Compiles.{Compiles}
 use Rattle.statements.specs.Forms.{afterEqual, loadedWords}
-use Rattle.cells.proofs.Laws.{part-read, part-failed}
-use Rattle.statements.proofs.Laws.{failing, from-got, leaf, just-words}
+use Rattle.cells.proofs.Laws.{got-read, got-failed, part-read, part-failed}
+use Rattle.statements.proofs.Laws.{failing, from-got, just-words}
 use borrow.Author.Needs.{needs}
 use Rattle.statements.proofs.assignment.set_x.Statement.{statement}
 use Rattle.statements.proofs.assignment.set_x.Tie as tie
@@ -22,19 +23,31 @@ returns c = failing _ (part-failed _ (c .before .before .expect .ensures) (c .en
 lone-cell-at-requires : tie.Need-lone-cell-at-requires
 lone-cell-at-requires c κs = search needs
 
+enum-told-2 : tie.Need-enum-told-2
+enum-told-2 c = search needs
+
+enum-told-3 : tie.Need-enum-told-3
+enum-told-3 c = search needs
+
+returns-2 : tie.Need-returns-2
+unfolding afterEqual
+returns-2 c =
+    let equal = part-read _ (c .before .before .before .before .before .before .expect .ensures) (c .before .before .before .before .part .given .1) in
+    let e = c .enum-told3 .given .1 in
+    from-got _ (equal .is) (Compiles.fails (got-failed _ (c .before .before .lone-cell-at .ensures) e) e)
+
 emit-cell-requires : tie.Need-emit-cell-requires
 emit-cell-requires c κs = search needs
 
 same-length : tie.Need-same-length
 same-length c = search needs
 
-returns-2 : tie.Need-returns-2
+returns-3 : tie.Need-returns-3
 unfolding afterEqual loadedWords
-returns-2 c =
-    let cell = c .before .before .before .before in
-    let known = cell .before .before in
-    let e = part-read _ (known .before .before .expect .ensures) (known .part .given .1) in
-    from-got _ (e .is) (leaf _ _ (cell .lone-cell-at .ensures) (just-words _ (c .before .before .emit-cell .ensures)))
+returns-3 c =
+    let equal = part-read _ (c .before .before .before .before .before .before .before .before .before .before .expect .ensures) (c .before .before .before .before .before .before .before .before .part .given .1) in
+    let e = c .before .before .before .before .enum-told2 .given .1 in
+    from-got _ (equal .is) (Compiles.read (got-read (c .before .before .before .before .before .before .lone-cell-at .ensures) e) e (just-words _ (c .before .before .emit-cell .ensures)))
 
 pub set-x-spec : {M : Type 1} → statement M
 set-x-spec =
@@ -45,6 +58,9 @@ set-x-spec =
     enum-told
     returns
     lone-cell-at-requires
+    enum-told-2
+    enum-told-3
+    returns-2
     emit-cell-requires
     same-length
-    returns-2)
+    returns-3)

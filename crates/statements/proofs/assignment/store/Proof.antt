@@ -1,6 +1,7 @@
 -- `assignment::store` meets its contract. Assumes nothing.
+use Rattle.expressions.specs.Compiles.{Compiles}
 use Rattle.statements.specs.Forms.{storedWords}
-use Rattle.statements.proofs.Laws.{kept, then-words}
+use Rattle.statements.proofs.Laws.{compiled, came, pass, then-words}
 use borrow.Author.Needs.{needs}
 use Rattle.statements.proofs.assignment.store.Statement.{statement}
 use Rattle.statements.proofs.assignment.store.Tie as tie
@@ -8,17 +9,42 @@ use Rattle.statements.proofs.assignment.store.Tie as tie
 assigned-requires : tie.Need-assigned-requires
 assigned-requires c κs = search needs
 
-emit-cell-requires : tie.Need-emit-cell-requires
-emit-cell-requires c κs = search needs
+enum-told : tie.Need-enum-told
+enum-told c = search needs
+
+enum-told-2 : tie.Need-enum-told-2
+enum-told-2 c = search needs
 
 same-length : tie.Need-same-length
 same-length c = search needs
 
 returns : tie.Need-returns
-unfolding storedWords
 returns c =
-    kept (c .before .before .before .before .before .before .before .assigned .ensures)
-    (λ e l. then-words _ l (c .before .before .emit-cell .ensures))
+    let e = c .enum-told2 .given .1 in
+    Compiles.fails (pass (compiled (c .before .before .before .before .assigned .ensures)) e) e
+
+emit-cell-requires : tie.Need-emit-cell-requires
+emit-cell-requires c κs = search needs
+
+same-length-2 : tie.Need-same-length-2
+same-length-2 c = search needs
+
+returns-2 : tie.Need-returns-2
+unfolding storedWords
+returns-2 c =
+    let e = c .before .before .before .before .before .enum-told .given .1 in
+    let x = came (compiled (c .before .before .before .before .before .before .before .before .before .assigned .ensures)) e in
+    Compiles.read (x .is) e (then-words _ (x .holds) (c .before .before .emit-cell .ensures))
 
 pub store-spec : {M : Type 1} → statement M
-store-spec = tie.close (tie.spec assigned-requires emit-cell-requires same-length returns)
+store-spec =
+    tie.close
+    (tie.spec
+    assigned-requires
+    enum-told
+    enum-told-2
+    same-length
+    returns
+    emit-cell-requires
+    same-length-2
+    returns-2)
