@@ -1,4 +1,4 @@
-// Statements: parsed and emitted in one go. Where a part fails, nothing is said of what is emitted, so a form may go on to its end with the failure as its part.
+// Statements: parsed and emitted in one go. Where a part fails, its failure is answered at once, and nothing is said of what is emitted.
 use crate::assignment::assigned;
 use crate::assignment::element;
 use crate::assignment::plain;
@@ -85,17 +85,18 @@ fn if_statement(
     let first = statement(source, table, image, context, next, inner, held);
     let done = first.part;
     let laid = first.output;
-    let other = followed_by(source, done, kind::ELSE);
-    let Part::Read { next: from } = other else {
-        return Answer {
-            part: other,
-            output: laid,
-        };
+    let part = followed_by(source, done, kind::ELSE);
+    let Part::Read { next: from } = part else {
+        return Answer { part, output: laid };
     };
     let end = emit_hole(image, laid);
     let over = end.output;
     fill_jump(image, test.hole, over.code);
     let second = statement(source, table, image, context, from, inner, over);
+    let part = second.part;
+    let Part::Read { next: _ } = part else {
+        return second;
+    };
     let last = second.output;
     fill_jump(image, end.hole, last.code);
     second
@@ -122,6 +123,10 @@ fn when_statement(
         return Answer { part, output: held };
     };
     let body = statement(source, table, image, context, next, inner, held);
+    let part = body.part;
+    let Part::Read { next: _ } = part else {
+        return body;
+    };
     let last = body.output;
     fill_jump(image, test.hole, last.code);
     body
@@ -149,14 +154,14 @@ fn while_statement(
         return Answer { part, output: held };
     };
     let body = statement(source, table, image, context, next, inner, held);
-    let done = body.part;
+    let part = body.part;
+    let Part::Read { next: _ } = part else {
+        return body;
+    };
     let laid = body.output;
     let back = emit_jump(image, laid, start);
     fill_jump(image, test.hole, back.code);
-    Answer {
-        part: done,
-        output: back,
-    }
+    Answer { part, output: back }
 }
 
 // `.FOR` integer or `#` = its first value, `.DO` statement.
@@ -182,14 +187,14 @@ fn for_statement(
     };
     let start = held.code;
     let body = statement(source, table, image, context, next, inner, held);
-    let done = body.part;
+    let part = body.part;
+    let Part::Read { next: _ } = part else {
+        return body;
+    };
     let laid = body.output;
     let one_more = emit_memory(image, context, laid, code::IRS, Operand::Named { id });
     let back = emit_jump(image, one_more, start);
-    Answer {
-        part: done,
-        output: back,
-    }
+    Answer { part, output: back }
 }
 
 // Statements of a level, parted by `;`. Each `;` takes a byte, so the source has as many bytes as there are turns.

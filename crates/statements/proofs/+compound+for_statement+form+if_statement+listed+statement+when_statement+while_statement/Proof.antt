@@ -239,20 +239,35 @@ for-statement-returns t c =
 for-statement-statement-requires : (t : ℕ) → for-statement-lts.Need-statement-requires (for-statement-calls t) (for-statement-at t) for-statement.Post
 for-statement-statement-requires t c κs = (omega (arith, c .before .before .before .before .before .before .before .before .before .before .before .before .before .pre .0), tt)
 
+for-statement-enum-told-2 : (t : ℕ) → for-statement-lts.Need-enum-told-2 (for-statement-calls t) (for-statement-at t) for-statement.Post
+for-statement-enum-told-2 t c = search needs
+
+for-statement-enum-told-3 : (t : ℕ) → for-statement-lts.Need-enum-told-3 (for-statement-calls t) (for-statement-at t) for-statement.Post
+for-statement-enum-told-3 t c = search needs
+
+for-statement-same-length-2 : (t : ℕ) → for-statement-lts.Need-same-length-2 (for-statement-calls t) (for-statement-at t) for-statement.Post
+for-statement-same-length-2 t c = search needs
+
+for-statement-returns-2 : (t : ℕ) → for-statement-lts.Need-returns-2 (for-statement-calls t) (for-statement-at t) for-statement.Post
+for-statement-returns-2 t c =
+    let x = came (follow _ _ (headed (c .before .before .before .before .before .before .before .before .before .before .before .before .before .for-head .ensures)) (c .before .before .before .before .before .before .before .before .before .followed-by .ensures)) (c .before .before .before .before .before .before .before .part .given .1) in
+    let e = c .enum-told3 .given .1 in
+    Compiles.fails (for-as _ _ _ _ _ ∙ then-got _ (x .is) ∙ then-failed _ (pass (compiled (c .before .before .before .before .statement .ensures)) e)) e
+
 for-statement-emit-memory-requires : (t : ℕ) → for-statement-lts.Need-emit-memory-requires (for-statement-calls t) (for-statement-at t) for-statement.Post
 for-statement-emit-memory-requires t c κs = search needs
 
 for-statement-emit-jump-requires : (t : ℕ) → for-statement-lts.Need-emit-jump-requires (for-statement-calls t) (for-statement-at t) for-statement.Post
 for-statement-emit-jump-requires t c κs = search needs
 
-for-statement-same-length-2 : (t : ℕ) → for-statement-lts.Need-same-length-2 (for-statement-calls t) (for-statement-at t) for-statement.Post
-for-statement-same-length-2 t c = omega (arith, c .before .before .before .before .before .before .before .before .before .before .before .before .before .before .before .before .before .before .before .before .for-head .kept, c .before .before .before .before .before .before .before .before .before .before .before .statement .kept, c .before .before .before .before .before .before .emit-memory .kept, c .before .before .emit-jump .kept)
+for-statement-same-length-3 : (t : ℕ) → for-statement-lts.Need-same-length-3 (for-statement-calls t) (for-statement-at t) for-statement.Post
+for-statement-same-length-3 t c = omega (arith, c .before .before .before .before .before .before .before .before .before .before .before .before .before .before .before .before .before .before .before .before .before .before .for-head .kept, c .before .before .before .before .before .before .before .before .before .before .before .before .before .statement .kept, c .before .before .before .before .before .before .emit-memory .kept, c .before .before .emit-jump .kept)
 
-for-statement-returns-2 : (t : ℕ) → for-statement-lts.Need-returns-2 (for-statement-calls t) (for-statement-at t) for-statement.Post
+for-statement-returns-3 : (t : ℕ) → for-statement-lts.Need-returns-3 (for-statement-calls t) (for-statement-at t) for-statement.Post
 unfolding treeOperand
-for-statement-returns-2 t c =
-    let x = came (follow _ _ (headed (c .before .before .before .before .before .before .before .before .before .before .before .before .before .before .before .before .before .before .before .before .for-head .ensures)) (c .before .before .before .before .before .before .before .before .before .before .before .before .before .before .before .before .followed-by .ensures)) (c .before .before .before .before .before .before .before .before .before .before .before .before .before .before .part .given .1) in
-    put-as (for-as _ _ _ _ _ ∙ then-got _ (x .is)) (within-form (loopOf (x .tree)) (c .before .before .before .before .before .before .before .before .before .before .before .statement .ensures)
+for-statement-returns-3 t c =
+    let x = came (follow _ _ (headed (c .before .before .before .before .before .before .before .before .before .before .before .before .before .before .before .before .before .before .before .before .before .before .for-head .ensures)) (c .before .before .before .before .before .before .before .before .before .before .before .before .before .before .before .before .before .before .followed-by .ensures)) (c .before .before .before .before .before .before .before .before .before .before .before .before .before .before .before .before .part .given .1) in
+    put-as (for-as _ _ _ _ _ ∙ then-got _ (x .is)) (within-form (loopOf (x .tree)) (c .before .before .before .before .before .before .before .before .before .before .before .before .before .statement .ensures)
     (λ s l. for-lays (x .tree) s (x .holds .0) (x .holds .1) l (c .before .before .before .before .before .before .emit-memory .ensures) (c .before .before .emit-jump .ensures)))
 
 form-enum-known-start : (t : ℕ) → form-lts.Need-enum-known-start (form-calls t) (form-at t) form.Post
@@ -414,8 +429,8 @@ if-statement-statement-requires t c κs = (omega (arith, c .before .before .befo
 if-statement-followed-by-requires-2 : (t : ℕ) → if-statement-lts.Need-followed-by-requires-2 (if-statement-calls t) (if-statement-at t) if-statement.Post
 if-statement-followed-by-requires-2 t c κs = search needs
 
-if-statement-enum-known-other : (t : ℕ) → if-statement-lts.Need-enum-known-other (if-statement-calls t) (if-statement-at t) if-statement.Post
-if-statement-enum-known-other t c = search needs
+if-statement-enum-known-part-2 : (t : ℕ) → if-statement-lts.Need-enum-known-part-2 (if-statement-calls t) (if-statement-at t) if-statement.Post
+if-statement-enum-known-part-2 t c = search needs
 
 if-statement-enum-told-2 : (t : ℕ) → if-statement-lts.Need-enum-told-2 (if-statement-calls t) (if-statement-at t) if-statement.Post
 if-statement-enum-told-2 t c = search needs
@@ -438,20 +453,36 @@ if-statement-fill-jump-requires t c κs = search needs
 if-statement-statement-requires-2 : (t : ℕ) → if-statement-lts.Need-statement-requires-2 (if-statement-calls t) (if-statement-at t) if-statement.Post
 if-statement-statement-requires-2 t c κs = (omega (arith, c .before .before .before .before .before .before .before .before .before .before .before .before .before .before .before .before .before .before .before .before .before .before .before .before .before .before .before .before .before .before .before .pre .0), tt)
 
-if-statement-fill-jump-requires-2 : (t : ℕ) → if-statement-lts.Need-fill-jump-requires-2 (if-statement-calls t) (if-statement-at t) if-statement.Post
-if-statement-fill-jump-requires-2 t c κs = search needs
+if-statement-enum-told-3 : (t : ℕ) → if-statement-lts.Need-enum-told-3 (if-statement-calls t) (if-statement-at t) if-statement.Post
+if-statement-enum-told-3 t c = search needs
+
+if-statement-enum-told-4 : (t : ℕ) → if-statement-lts.Need-enum-told-4 (if-statement-calls t) (if-statement-at t) if-statement.Post
+if-statement-enum-told-4 t c = search needs
 
 if-statement-same-length-3 : (t : ℕ) → if-statement-lts.Need-same-length-3 (if-statement-calls t) (if-statement-at t) if-statement.Post
-if-statement-same-length-3 t c = omega (arith, c .before .before .before .before .before .before .before .before .before .before .before .before .before .before .before .before .before .before .before .before .before .before .before .before .before .before .before .before .before .before .before .before .before .before .condition .kept, c .before .before .before .before .before .before .before .before .before .before .before .before .before .before .before .before .before .before .before .before .before .before .before .before .before .statement .kept, c .before .before .before .before .before .before .before .before .before .before .before .before .before .before .before .before .emit-hole .kept, c .before .before .before .before .before .before .before .before .before .before .before .fill-jump .kept, c .before .before .before .before .before .before .before .statement2 .kept, c .before .before .fill-jump2 .kept)
+if-statement-same-length-3 t c = omega (arith, c .before .before .before .before .before .before .before .before .before .before .before .before .before .before .before .before .before .before .before .before .before .before .before .before .before .before .before .before .before .before .before .condition .kept, c .before .before .before .before .before .before .before .before .before .before .before .before .before .before .before .before .before .before .before .before .before .before .statement .kept, c .before .before .before .before .before .before .before .before .before .before .before .before .before .emit-hole .kept, c .before .before .before .before .before .before .before .before .fill-jump .kept, c .before .before .before .before .statement2 .kept)
 
 if-statement-returns-3 : (t : ℕ) → if-statement-lts.Need-returns-3 (if-statement-calls t) (if-statement-at t) if-statement.Post
 if-statement-returns-3 t c =
-    let x = came (follow _ _ (tested (c .before .before .before .before .before .before .before .before .before .before .before .before .before .before .before .before .before .before .before .before .before .before .before .before .before .before .before .before .before .before .before .before .before .before .condition .ensures)) (c .before .before .before .before .before .before .before .before .before .before .before .before .before .before .before .before .before .before .before .before .before .before .before .before .before .before .before .before .before .before .followed-by .ensures)) (c .before .before .before .before .before .before .before .before .before .before .before .before .before .before .before .before .before .before .before .before .before .before .before .before .before .before .before .before .part .given .1) in
-    let y = came (follow _ _ (compiled (c .before .before .before .before .before .before .before .before .before .before .before .before .before .before .before .before .before .before .before .before .before .before .before .before .before .statement .ensures)) (c .before .before .before .before .before .before .before .before .before .before .before .before .before .before .before .before .before .before .before .before .before .followed-by2 .ensures)) (c .before .before .before .before .before .before .before .before .before .before .before .before .before .before .before .before .before .before .before .other .given .1) in
+    let x = came (follow _ _ (tested (c .before .before .before .before .before .before .before .before .before .before .before .before .before .before .before .before .before .before .before .before .before .before .before .before .before .before .before .before .before .before .before .condition .ensures)) (c .before .before .before .before .before .before .before .before .before .before .before .before .before .before .before .before .before .before .before .before .before .before .before .before .before .before .before .followed-by .ensures)) (c .before .before .before .before .before .before .before .before .before .before .before .before .before .before .before .before .before .before .before .before .before .before .before .before .before .part .given .1) in
+    let y = came (follow _ _ (compiled (c .before .before .before .before .before .before .before .before .before .before .before .before .before .before .before .before .before .before .before .before .before .before .statement .ensures)) (c .before .before .before .before .before .before .before .before .before .before .before .before .before .before .before .before .before .before .followed-by2 .ensures)) (c .before .before .before .before .before .before .before .before .before .before .before .before .before .before .before .before .part2 .given .1) in
+    let e = c .enum-told4 .given .1 in
+    Compiles.fails (if-on _ _ _ _ _ (x .is) (y .is) ∙ then-failed _ (pass (compiled (c .before .before .before .before .statement2 .ensures)) e)) e
+
+if-statement-fill-jump-requires-2 : (t : ℕ) → if-statement-lts.Need-fill-jump-requires-2 (if-statement-calls t) (if-statement-at t) if-statement.Post
+if-statement-fill-jump-requires-2 t c κs = search needs
+
+if-statement-same-length-4 : (t : ℕ) → if-statement-lts.Need-same-length-4 (if-statement-calls t) (if-statement-at t) if-statement.Post
+if-statement-same-length-4 t c = omega (arith, c .before .before .before .before .before .before .before .before .before .before .before .before .before .before .before .before .before .before .before .before .before .before .before .before .before .before .before .before .before .before .before .before .before .before .before .before .condition .kept, c .before .before .before .before .before .before .before .before .before .before .before .before .before .before .before .before .before .before .before .before .before .before .before .before .before .before .before .statement .kept, c .before .before .before .before .before .before .before .before .before .before .before .before .before .before .before .before .before .before .emit-hole .kept, c .before .before .before .before .before .before .before .before .before .before .before .before .before .fill-jump .kept, c .before .before .before .before .before .before .before .before .before .statement2 .kept, c .before .before .fill-jump2 .kept)
+
+if-statement-returns-4 : (t : ℕ) → if-statement-lts.Need-returns-4 (if-statement-calls t) (if-statement-at t) if-statement.Post
+if-statement-returns-4 t c =
+    let x = came (follow _ _ (tested (c .before .before .before .before .before .before .before .before .before .before .before .before .before .before .before .before .before .before .before .before .before .before .before .before .before .before .before .before .before .before .before .before .before .before .before .before .condition .ensures)) (c .before .before .before .before .before .before .before .before .before .before .before .before .before .before .before .before .before .before .before .before .before .before .before .before .before .before .before .before .before .before .before .before .followed-by .ensures)) (c .before .before .before .before .before .before .before .before .before .before .before .before .before .before .before .before .before .before .before .before .before .before .before .before .before .before .before .before .before .before .part .given .1) in
+    let y = came (follow _ _ (compiled (c .before .before .before .before .before .before .before .before .before .before .before .before .before .before .before .before .before .before .before .before .before .before .before .before .before .before .before .statement .ensures)) (c .before .before .before .before .before .before .before .before .before .before .before .before .before .before .before .before .before .before .before .before .before .before .before .followed-by2 .ensures)) (c .before .before .before .before .before .before .before .before .before .before .before .before .before .before .before .before .before .before .before .before .before .part2 .given .1) in
     put-as (if-on _ _ _ _ _ (x .is) (y .is))
-    (within-form (Stmt.if (x .tree) (y .tree)) (c .before .before .before .before .before .before .before .statement2 .ensures)
+    (within-form (Stmt.if (x .tree) (y .tree)) (c .before .before .before .before .before .before .before .before .before .statement2 .ensures)
     (λ t l. if-lays (x .tree) (y .tree) t
-    (over (x .tree) (y .tree) (x .holds) (y .holds) (c .before .before .before .before .before .before .before .before .before .before .before .before .before .before .before .before .emit-hole .ensures) (c .before .before .before .before .before .before .before .before .before .before .before .fill-jump .ensures))
+    (over (x .tree) (y .tree) (x .holds) (y .holds) (c .before .before .before .before .before .before .before .before .before .before .before .before .before .before .before .before .before .before .emit-hole .ensures) (c .before .before .before .before .before .before .before .before .before .before .before .before .before .fill-jump .ensures))
     l (c .before .before .fill-jump2 .ensures)))
 
 abbrev listed-Inv-loop : listed-lts.InvT-loop
@@ -569,16 +600,31 @@ when-statement-returns t c =
 when-statement-statement-requires : (t : ℕ) → when-statement-lts.Need-statement-requires (when-statement-calls t) (when-statement-at t) when-statement.Post
 when-statement-statement-requires t c κs = (omega (arith, c .before .before .before .before .before .before .before .before .before .before .before .before .before .pre .0), tt)
 
-when-statement-fill-jump-requires : (t : ℕ) → when-statement-lts.Need-fill-jump-requires (when-statement-calls t) (when-statement-at t) when-statement.Post
-when-statement-fill-jump-requires t c κs = search needs
+when-statement-enum-told-2 : (t : ℕ) → when-statement-lts.Need-enum-told-2 (when-statement-calls t) (when-statement-at t) when-statement.Post
+when-statement-enum-told-2 t c = search needs
+
+when-statement-enum-told-3 : (t : ℕ) → when-statement-lts.Need-enum-told-3 (when-statement-calls t) (when-statement-at t) when-statement.Post
+when-statement-enum-told-3 t c = search needs
 
 when-statement-same-length-2 : (t : ℕ) → when-statement-lts.Need-same-length-2 (when-statement-calls t) (when-statement-at t) when-statement.Post
 when-statement-same-length-2 t c = search needs
 
 when-statement-returns-2 : (t : ℕ) → when-statement-lts.Need-returns-2 (when-statement-calls t) (when-statement-at t) when-statement.Post
 when-statement-returns-2 t c =
-    let x = came (follow _ _ (tested (c .before .before .before .before .before .before .before .before .before .before .before .before .before .before .before .before .condition .ensures)) (c .before .before .before .before .before .before .before .before .before .before .before .before .followed-by .ensures)) (c .before .before .before .before .before .before .before .before .before .before .part .given .1) in
-    put-as (when-as _ _ _ _ _ ∙ then-got _ (x .is)) (within-form (Stmt.when (x .tree)) (c .before .before .before .before .before .before .before .statement .ensures)
+    let x = came (follow _ _ (tested (c .before .before .before .before .before .before .before .before .before .before .before .before .before .condition .ensures)) (c .before .before .before .before .before .before .before .before .before .followed-by .ensures)) (c .before .before .before .before .before .before .before .part .given .1) in
+    let e = c .enum-told3 .given .1 in
+    Compiles.fails (when-as _ _ _ _ _ ∙ then-got _ (x .is) ∙ then-failed _ (pass (compiled (c .before .before .before .before .statement .ensures)) e)) e
+
+when-statement-fill-jump-requires : (t : ℕ) → when-statement-lts.Need-fill-jump-requires (when-statement-calls t) (when-statement-at t) when-statement.Post
+when-statement-fill-jump-requires t c κs = search needs
+
+when-statement-same-length-3 : (t : ℕ) → when-statement-lts.Need-same-length-3 (when-statement-calls t) (when-statement-at t) when-statement.Post
+when-statement-same-length-3 t c = search needs
+
+when-statement-returns-3 : (t : ℕ) → when-statement-lts.Need-returns-3 (when-statement-calls t) (when-statement-at t) when-statement.Post
+when-statement-returns-3 t c =
+    let x = came (follow _ _ (tested (c .before .before .before .before .before .before .before .before .before .before .before .before .before .before .before .before .before .before .condition .ensures)) (c .before .before .before .before .before .before .before .before .before .before .before .before .before .before .followed-by .ensures)) (c .before .before .before .before .before .before .before .before .before .before .before .before .part .given .1) in
+    put-as (when-as _ _ _ _ _ ∙ then-got _ (x .is)) (within-form (Stmt.when (x .tree)) (c .before .before .before .before .before .before .before .before .before .statement .ensures)
     (λ s l. when-lays (x .tree) s (x .holds) l (c .before .before .fill-jump .ensures)))
 
 while-statement-condition-requires : (t : ℕ) → while-statement-lts.Need-condition-requires (while-statement-calls t) (while-statement-at t) while-statement.Post
@@ -604,19 +650,34 @@ while-statement-returns t c =
 while-statement-statement-requires : (t : ℕ) → while-statement-lts.Need-statement-requires (while-statement-calls t) (while-statement-at t) while-statement.Post
 while-statement-statement-requires t c κs = (omega (arith, c .before .before .before .before .before .before .before .before .before .before .before .before .before .pre .0), tt)
 
-while-statement-emit-jump-requires : (t : ℕ) → while-statement-lts.Need-emit-jump-requires (while-statement-calls t) (while-statement-at t) while-statement.Post
-while-statement-emit-jump-requires t c κs = search needs
+while-statement-enum-told-2 : (t : ℕ) → while-statement-lts.Need-enum-told-2 (while-statement-calls t) (while-statement-at t) while-statement.Post
+while-statement-enum-told-2 t c = search needs
 
-while-statement-fill-jump-requires : (t : ℕ) → while-statement-lts.Need-fill-jump-requires (while-statement-calls t) (while-statement-at t) while-statement.Post
-while-statement-fill-jump-requires t c κs = search needs
+while-statement-enum-told-3 : (t : ℕ) → while-statement-lts.Need-enum-told-3 (while-statement-calls t) (while-statement-at t) while-statement.Post
+while-statement-enum-told-3 t c = search needs
 
 while-statement-same-length-2 : (t : ℕ) → while-statement-lts.Need-same-length-2 (while-statement-calls t) (while-statement-at t) while-statement.Post
 while-statement-same-length-2 t c = search needs
 
 while-statement-returns-2 : (t : ℕ) → while-statement-lts.Need-returns-2 (while-statement-calls t) (while-statement-at t) while-statement.Post
 while-statement-returns-2 t c =
-    let x = came (follow _ _ (tested (c .before .before .before .before .before .before .before .before .before .before .before .before .before .before .before .before .before .before .before .before .condition .ensures)) (c .before .before .before .before .before .before .before .before .before .before .before .before .before .before .before .before .followed-by .ensures)) (c .before .before .before .before .before .before .before .before .before .before .before .before .before .before .part .given .1) in
-    put-as (while-as _ _ _ _ _ ∙ then-got _ (x .is)) (within-form (Stmt.while (x .tree)) (c .before .before .before .before .before .before .before .before .before .before .before .statement .ensures)
+    let x = came (follow _ _ (tested (c .before .before .before .before .before .before .before .before .before .before .before .before .before .condition .ensures)) (c .before .before .before .before .before .before .before .before .before .followed-by .ensures)) (c .before .before .before .before .before .before .before .part .given .1) in
+    let e = c .enum-told3 .given .1 in
+    Compiles.fails (while-as _ _ _ _ _ ∙ then-got _ (x .is) ∙ then-failed _ (pass (compiled (c .before .before .before .before .statement .ensures)) e)) e
+
+while-statement-emit-jump-requires : (t : ℕ) → while-statement-lts.Need-emit-jump-requires (while-statement-calls t) (while-statement-at t) while-statement.Post
+while-statement-emit-jump-requires t c κs = search needs
+
+while-statement-fill-jump-requires : (t : ℕ) → while-statement-lts.Need-fill-jump-requires (while-statement-calls t) (while-statement-at t) while-statement.Post
+while-statement-fill-jump-requires t c κs = search needs
+
+while-statement-same-length-3 : (t : ℕ) → while-statement-lts.Need-same-length-3 (while-statement-calls t) (while-statement-at t) while-statement.Post
+while-statement-same-length-3 t c = search needs
+
+while-statement-returns-3 : (t : ℕ) → while-statement-lts.Need-returns-3 (while-statement-calls t) (while-statement-at t) while-statement.Post
+while-statement-returns-3 t c =
+    let x = came (follow _ _ (tested (c .before .before .before .before .before .before .before .before .before .before .before .before .before .before .before .before .before .before .before .before .before .before .condition .ensures)) (c .before .before .before .before .before .before .before .before .before .before .before .before .before .before .before .before .before .before .followed-by .ensures)) (c .before .before .before .before .before .before .before .before .before .before .before .before .before .before .before .before .part .given .1) in
+    put-as (while-as _ _ _ _ _ ∙ then-got _ (x .is)) (within-form (Stmt.while (x .tree)) (c .before .before .before .before .before .before .before .before .before .before .before .before .before .statement .ensures)
     (λ s l. while-lays (x .tree) s (x .holds) l (c .before .before .before .before .before .before .emit-jump .ensures) (c .before .before .fill-jump .ensures)))
 
 pub +compound+for-statement+form+if-statement+listed+statement+when-statement+while-statement-spec :
@@ -648,10 +709,14 @@ pub +compound+for-statement+form+if-statement+listed+statement+when-statement+wh
     (for-statement-same-length t)
     (for-statement-returns t)
     (for-statement-statement-requires t)
+    (for-statement-enum-told-2 t)
+    (for-statement-enum-told-3 t)
+    (for-statement-same-length-2 t)
+    (for-statement-returns-2 t)
     (for-statement-emit-memory-requires t)
     (for-statement-emit-jump-requires t)
-    (for-statement-same-length-2 t)
-    (for-statement-returns-2 t))
+    (for-statement-same-length-3 t)
+    (for-statement-returns-3 t))
     (λ t. form-lts.spec (form-calls t)
     (form-at t)
     form.Post
@@ -707,16 +772,20 @@ pub +compound+for-statement+form+if-statement+listed+statement+when-statement+wh
     (if-statement-returns t)
     (if-statement-statement-requires t)
     (if-statement-followed-by-requires-2 t)
-    (if-statement-enum-known-other t)
+    (if-statement-enum-known-part-2 t)
     (if-statement-enum-told-2 t)
     (if-statement-same-length-2 t)
     (if-statement-returns-2 t)
     (if-statement-emit-hole-requires t)
     (if-statement-fill-jump-requires t)
     (if-statement-statement-requires-2 t)
-    (if-statement-fill-jump-requires-2 t)
+    (if-statement-enum-told-3 t)
+    (if-statement-enum-told-4 t)
     (if-statement-same-length-3 t)
-    (if-statement-returns-3 t))
+    (if-statement-returns-3 t)
+    (if-statement-fill-jump-requires-2 t)
+    (if-statement-same-length-4 t)
+    (if-statement-returns-4 t))
     (λ t. listed-lts.spec (listed-calls t)
     (listed-at t)
     listed.Post
@@ -762,9 +831,13 @@ pub +compound+for-statement+form+if-statement+listed+statement+when-statement+wh
     (when-statement-same-length t)
     (when-statement-returns t)
     (when-statement-statement-requires t)
-    (when-statement-fill-jump-requires t)
+    (when-statement-enum-told-2 t)
+    (when-statement-enum-told-3 t)
     (when-statement-same-length-2 t)
-    (when-statement-returns-2 t))
+    (when-statement-returns-2 t)
+    (when-statement-fill-jump-requires t)
+    (when-statement-same-length-3 t)
+    (when-statement-returns-3 t))
     λ t. while-statement-lts.spec (while-statement-calls t)
     (while-statement-at t)
     while-statement.Post
@@ -775,7 +848,11 @@ pub +compound+for-statement+form+if-statement+listed+statement+when-statement+wh
     (while-statement-same-length t)
     (while-statement-returns t)
     (while-statement-statement-requires t)
-    (while-statement-emit-jump-requires t)
-    (while-statement-fill-jump-requires t)
+    (while-statement-enum-told-2 t)
+    (while-statement-enum-told-3 t)
     (while-statement-same-length-2 t)
     (while-statement-returns-2 t)
+    (while-statement-emit-jump-requires t)
+    (while-statement-fill-jump-requires t)
+    (while-statement-same-length-3 t)
+    (while-statement-returns-3 t)
