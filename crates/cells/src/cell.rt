@@ -42,6 +42,11 @@ pub(crate) struct CellStartAnswer {
     pub start: CellStart,
 }
 
+// What a failed operand's answer holds.
+fn no_operand() -> Operand {
+    Operand::Literal { value: 0 }
+}
+
 // A token as an operand, by what it stands for.
 fn operand_of(t: Token, symbol: Symbol) -> OperandAnswer
     ensures { λ r. ⌜ gotWith (r .part) (treeOperand (r .operand)) ≡ operandBy (treeSymbol symbol) t ⌝ }
@@ -62,7 +67,7 @@ fn operand_of(t: Token, symbol: Symbol) -> OperandAnswer
         },
         _ => OperandAnswer {
             part: refused(t),
-            operand: Operand::Literal { value: 0 },
+            operand: no_operand(),
         },
     }
 }
@@ -80,6 +85,12 @@ fn inner_subscript_at(source: &[u8], table: &[u16], names: usize, at: usize) -> 
     }
     let read = operand_of(t, meaning_by(source, table, names, t));
     let part = read.part;
+    let Part::Read { next: _ } = part else {
+        return SubscriptAnswer {
+            part,
+            subscript: Subscript::Hash,
+        };
+    };
     let operand = read.operand;
     SubscriptAnswer {
         part,
@@ -115,6 +126,14 @@ pub(crate) fn cell_start_of(t: Token, symbol: Symbol) -> CellStartAnswer
     let Symbol::Array { array } = symbol else {
         let read = operand_of(t, symbol);
         let part = read.part;
+        let Part::Read { next: _ } = part else {
+            return CellStartAnswer {
+                part,
+                start: CellStart::Whole {
+                    operand: no_operand(),
+                },
+            };
+        };
         let operand = read.operand;
         return CellStartAnswer {
             part,
@@ -145,6 +164,12 @@ pub fn cell_from(
         CellStart::Element { array } => {
             let read = subscript_at(source, table, names, at);
             let part = read.part;
+            let Part::Read { next: _ } = part else {
+                return CellAnswer {
+                    part,
+                    cell: no_cell(),
+                };
+            };
             let subscript = read.subscript;
             CellAnswer {
                 part,
@@ -157,7 +182,7 @@ pub fn cell_from(
 // What a failed cell's answer holds.
 fn no_cell() -> Cell {
     Cell::Plain {
-        operand: Operand::Literal { value: 0 },
+        operand: no_operand(),
     }
 }
 

@@ -1,10 +1,12 @@
 // The first token of a term or of a statement.
 ghost use mathlib.Core.Path.{_≡_};
 ghost use Rattle.source.specs.Tokens.{tokenAt};
-ghost use Rattle.syntax.specs.Expressions.{termStart, tooDeepExpr};
+ghost use Rattle.syntax.specs.Parse.{andThen};
+ghost use Rattle.syntax.specs.Parse.Got.{got};
+ghost use Rattle.syntax.specs.Expressions.{TermStart as TermDef, termStart, tooDeepExpr};
 ghost use Rattle.syntax.specs.Statements.{stmtStart};
 ghost use Rattle.symbols.specs.Table.{heldBy};
-ghost use Rattle.cells.specs.Starts.{termBy, opening};
+ghost use Rattle.cells.specs.Starts.{cellBy, termBy, opening};
 ghost use Rattle.cells.specs.Answers.{partOf, gotWith, treeSymbol, treeTermStart, treeStatementStart};
 use crate::Part;
 use crate::StatementStart;
@@ -30,6 +32,25 @@ pub struct StatementAnswer {
     pub start: StatementStart,
 }
 
+// A term that begins like a cell, by what its first token stands for.
+fn cell_term_of(t: Token, symbol: Symbol) -> TermAnswer
+    ensures { λ r. ⌜ gotWith (r .part) (treeTermStart (r .start)) ≡ andThen (cellBy (treeSymbol symbol) t) (λ c next. got (TermDef.cell c) next) ⌝ }
+{
+    let read = cell_start_of(t, symbol);
+    let part = read.part;
+    let Part::Read { next: _ } = part else {
+        return TermAnswer {
+            part,
+            start: TermStart::Zero,
+        };
+    };
+    let start = read.start;
+    TermAnswer {
+        part,
+        start: TermStart::Cell { start },
+    }
+}
+
 // A term that is a call or begins like a cell, by what its first token stands for.
 fn named_term_of(t: Token, symbol: Symbol) -> TermAnswer
     ensures { λ r. ⌜ gotWith (r .part) (treeTermStart (r .start)) ≡ termBy (treeSymbol symbol) t ⌝ }
@@ -45,13 +66,7 @@ fn named_term_of(t: Token, symbol: Symbol) -> TermAnswer
             };
         }
     }
-    let read = cell_start_of(t, symbol);
-    let part = read.part;
-    let start = read.start;
-    TermAnswer {
-        part,
-        start: TermStart::Cell { start },
-    }
+    cell_term_of(t, symbol)
 }
 
 pub fn term_start_at(source: &[u8], table: &[u16], names: usize, at: usize) -> TermAnswer

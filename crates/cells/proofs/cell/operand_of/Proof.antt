@@ -21,6 +21,9 @@ enum-known-symbol-3 c = search needs
 refused-requires : tie.Need-refused-requires
 refused-requires c κs = search needs
 
+no-operand-requires : tie.Need-no-operand-requires
+no-operand-requires c κs = search needs
+
 returns : tie.Need-returns
 unfolding gotWith operandBy asOperand treeOperand treeSymbol
 returns c = rw (c .before .symbol .given .1)
@@ -35,7 +38,7 @@ returns-3 c = rw (c .before .symbol3 .given .1)
 
 returns-4 : tie.Need-returns-4
 unfolding operandBy
-returns-4 c = rw (no-operand _ (c .before .match .keys4)) (refused-with _ _ (c .refused .ensures))
+returns-4 c = rw (no-operand _ (c .before .before .match .keys4)) (refused-with _ _ (c .before .refused .ensures))
 
 pub operand-of-spec : {M : Type 1} → statement M
 operand-of-spec =
@@ -45,6 +48,7 @@ operand-of-spec =
     enum-known-symbol-2
     enum-known-symbol-3
     refused-requires
+    no-operand-requires
     returns
     returns-2
     returns-3

@@ -2,11 +2,9 @@
 use mathlib.Core.Path.{_≡_, sym, _∙_}
 use mathlib.Core.Logic.{⊎-elim}
 use mathlib.Core.Option.{none}
-use Rattle.syntax.specs.Expressions.{TermStart}
 use Rattle.syntax.specs.Symbols.{asFunction}
 use Rattle.cells.specs.Answers.{gotWith, treeSymbol, treeTermStart}
 use Rattle.cells.specs.Starts.{termBy}
-use Rattle.cells.proofs.Laws.{then-with}
 use Rattle.cells.proofs.Names.{no-function}
 use borrow.Author.Needs.{needs}
 use Rattle.cells.proofs.openings.named_term_of.Statement.{statement}
@@ -19,17 +17,17 @@ returns : tie.Need-returns
 unfolding gotWith termBy asFunction treeSymbol treeTermStart
 returns c = rw (c .before .before .symbol .given .1, c .if1 .taken)
 
-cell-start-of-requires : tie.Need-cell-start-of-requires
-cell-start-of-requires c κs = search needs
+cell-term-of-requires : tie.Need-cell-term-of-requires
+cell-term-of-requires c κs = search needs
 
 returns-2 : tie.Need-returns-2
-unfolding termBy asFunction treeSymbol treeTermStart
+unfolding termBy asFunction treeSymbol
 returns-2 c =
     let s = c .before .before .args .symbol in
     let same : c .before .match .symbol ≡ s = ⊎-elim (λ w. w .4 ∙ sym (w .1 .given .1)) (λ w. w .1) (c .before .match .came) in
     let other : asFunction (treeSymbol s) ≡ none = ⊎-elim (λ w. rw (w .1 .given .1, w .3 .left)) (λ w. no-function s (w .0 .keys2)) (c .before .match .came) in
-    rw (other, ← same) (then-with _ _ TermStart.cell (c .cell-start-of .ensures))
+    rw (other, ← same) (c .cell-term-of .ensures)
 
 pub named-term-of-spec : {M : Type 1} → statement M
 named-term-of-spec =
-    tie.close (tie.spec enum-known-symbol returns cell-start-of-requires returns-2)
+    tie.close (tie.spec enum-known-symbol returns cell-term-of-requires returns-2)
