@@ -110,17 +110,18 @@ pub fn operations(
         k -= 1;
         let t = operator_at(source, i);
         let turn = operation(source, table, image, context, t, held);
-        held = turn.output;
+        let laid = turn.output;
         if !turn.more {
             return Answer {
                 part: Part::Read { next: i },
-                output: held,
+                output: laid,
             };
         }
         let part = turn.part;
         let Part::Read { next } = part else {
-            return Answer { part, output: held };
+            return Answer { part, output: laid };
         };
+        held = laid;
         i = next;
     }
     Answer {
