@@ -23,8 +23,7 @@ ghost use Rattle.expressions.specs.Compiles.{Compiles, Turned};
 // An operation's answer, if there is one.
 struct Turn {
     more: bool,
-    part: Part,
-    output: Output,
+    answer: Answer,
 }
 
 // A shift's amount, after the shift word.
@@ -60,35 +59,24 @@ fn operation(
     t: Token,
     output: Output,
 ) -> Turn
-    ensures { λ r. ⌜ Turned (basesOf context) (emittedBy output (now (image .entry))) (emittedBy (r .output) (now (image .exit))) (r .more) (r .part) (operationAt (now (source .entry)) (heldBy (context .names) (now (table .entry))) t) ⌝ }
+    ensures { λ r. ⌜ Turned (basesOf context) (emittedBy output (now (image .entry))) (emittedBy (r .answer .output) (now (image .exit))) (r .more) (r .answer .part) (operationAt (now (source .entry)) (heldBy (context .names) (now (table .entry))) t) ⌝ }
 {
     let operator = words::operator(t.kind);
     if 0 < operator {
         let read = cell_at(source, table, context.names, t.next);
-        let one = emit_read(image, context, operator - 1, read, output);
-        let part = one.part;
-        let more = one.output;
-        return Turn {
-            more: true,
-            part,
-            output: more,
-        };
+        let answer = emit_read(image, context, operator - 1, read, output);
+        return Turn { more: true, answer };
     }
     let shift = words::shift_word(t.kind);
     if 0 < shift {
-        let one = shifted(source, table, image, context, shift - 1, t.next, output);
-        let part = one.part;
-        let more = one.output;
-        return Turn {
-            more: true,
-            part,
-            output: more,
-        };
+        let answer = shifted(source, table, image, context, shift - 1, t.next, output);
+        return Turn { more: true, answer };
     }
+    let part = Part::Read { next: t.at };
+    let answer = Answer { part, output };
     Turn {
         more: false,
-        part: Part::Read { next: t.at },
-        output,
+        answer,
     }
 }
 
@@ -110,14 +98,15 @@ pub fn operations(
         k -= 1;
         let t = operator_at(source, i);
         let turn = operation(source, table, image, context, t, held);
-        let laid = turn.output;
+        let one = turn.answer;
+        let laid = one.output;
         if !turn.more {
             return Answer {
                 part: Part::Read { next: i },
                 output: laid,
             };
         }
-        let part = turn.part;
+        let part = one.part;
         let Part::Read { next } = part else {
             return Answer { part, output: laid };
         };

@@ -23,7 +23,7 @@ same-length : tie.Need-same-length
 same-length c = search needs
 
 returns : tie.Need-returns
-returns c = binary-turn _ _ _ _ (c .before .before .before .before .before .before .before .operator .ensures) (c .before .before .before .before .before .before .if1 .taken) (parsed-as (c .before .before .before .emit-read .ensures) (sym (c .before .before .before .before .before .cell-at .ensures)))
+returns c = binary-turn _ _ _ _ (c .before .before .before .before .before .before .operator .ensures) (c .before .before .before .before .before .if1 .taken) (parsed-as (c .before .before .emit-read .ensures) (sym (c .before .before .before .before .cell-at .ensures)))
 
 shift-word-requires : tie.Need-shift-word-requires
 shift-word-requires c κs = search needs
@@ -38,7 +38,7 @@ same-length-2 : tie.Need-same-length-2
 same-length-2 c = search needs
 
 returns-2 : tie.Need-returns-2
-returns-2 c = shift-turn _ _ _ _ (none-left _ (c .before .before .before .before .before .before .before .if1 .left) ∙ c .before .before .before .before .before .before .before .before .operator .ensures) (c .before .before .before .before .before .before .shift-word .ensures) (c .before .before .before .before .before .if2 .taken) (c .before .before .before .shifted .ensures)
+returns-2 c = shift-turn _ _ _ _ (none-left _ (c .before .before .before .before .before .before .if1 .left) ∙ c .before .before .before .before .before .before .before .operator .ensures) (c .before .before .before .before .before .shift-word .ensures) (c .before .before .before .before .if2 .taken) (c .before .before .shifted .ensures)
 
 returns-3 : tie.Need-returns-3
 returns-3 c = no-turn _ _ _ (none-left _ (c .before .before .if1 .left) ∙ c .before .before .before .operator .ensures) (none-left _ (c .if2 .left) ∙ c .before .shift-word .ensures)

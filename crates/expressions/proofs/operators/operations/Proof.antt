@@ -50,13 +50,13 @@ operation-requires : tie.Need-operation-requires Inv-loop μ-loop
 operation-requires c κs = search needs
 
 same-length : tie.Need-same-length Inv-loop μ-loop
-same-length c = c .before .before .before .before .image .given ∙ c .before .before .before .before .before .before .before .before .before .loop .inv .long
+same-length c = c .before .before .before .before .before .image .given ∙ c .before .before .before .before .before .before .before .before .before .before .loop .inv .long
 
 returns : tie.Need-returns Inv-loop μ-loop
 returns c =
-    let l = c .before .before .before .before .before .before .before .before .before .loop .inv in
-    let q = turn-last (c .before .before .before .before .before .operation .ensures) (not-true _ (c .if1 .taken)) in
-    Compiles.read (sym (l .same) ∙ stops _ _ (l .done) _ _ (c .before .before .before .before .before .before .before .operator-at .ensures) _ (q .0)) refl (rw (q .1) (l .lays))
+    let l = c .before .before .before .before .before .before .before .before .before .before .loop .inv in
+    let q = turn-last (c .before .before .before .before .before .before .operation .ensures) (not-true _ (c .if1 .taken)) in
+    Compiles.read (sym (l .same) ∙ stops _ _ (l .done) _ _ (c .before .before .before .before .before .before .before .before .operator-at .ensures) _ (q .0)) refl (rw (q .1) (l .lays))
 
 enum-known-part : tie.Need-enum-known-part Inv-loop μ-loop
 enum-known-part c = search needs
@@ -65,27 +65,27 @@ enum-told : tie.Need-enum-told Inv-loop μ-loop
 enum-told c = search needs
 
 same-length-2 : tie.Need-same-length-2 Inv-loop μ-loop
-same-length-2 c = c .before .before .before .before .before .before .image .given ∙ c .before .before .before .before .before .before .before .before .before .before .before .loop .inv .long
+same-length-2 c = c .before .before .before .before .before .before .before .image .given ∙ c .before .before .before .before .before .before .before .before .before .before .before .before .loop .inv .long
 
 returns-2 : tie.Need-returns-2 Inv-loop μ-loop
 returns-2 c =
-    let l = c .before .before .before .before .before .before .before .before .before .before .before .loop .inv in
-    let q = turn-one (c .before .before .before .before .before .before .before .operation .ensures) (not-false _ (c .before .before .if1 .left)) in
-    Compiles.fails (sym (l .same) ∙ goes-on _ _ (l .done) _ _ (c .before .before .before .before .before .before .before .before .before .operator-at .ensures) _ (c .before .before .before .before .before .before .before .before .before .before .loop-test .taken) (q .is) ∙ then-failed _ (failed-as (q .compiles) (c .enum-told .given .1))) (c .enum-told .given .1)
+    let l = c .before .before .before .before .before .before .before .before .before .before .before .before .loop .inv in
+    let q = turn-one (c .before .before .before .before .before .before .before .before .operation .ensures) (not-false _ (c .before .before .if1 .left)) in
+    Compiles.fails (sym (l .same) ∙ goes-on _ _ (l .done) _ _ (c .before .before .before .before .before .before .before .before .before .before .operator-at .ensures) _ (c .before .before .before .before .before .before .before .before .before .before .before .loop-test .taken) (q .is) ∙ then-failed _ (failed-as (q .compiles) (c .enum-told .given .1))) (c .enum-told .given .1)
 
 loop-less : tie.Need-loop-less Inv-loop μ-loop
-loop-less c = omega (arith, c .before .before .before .before .before .before .before .before .before .before .before .loop-test .taken)
+loop-less c = omega (arith, c .before .before .before .before .before .before .before .before .before .before .before .before .loop-test .taken)
 
 loop-again : tie.Need-loop-again Inv-loop μ-loop
 loop-again c =
-    let l = c .before .before .before .before .before .before .before .before .before .before .before .before .loop .inv in
-    let q = turn-one (c .before .before .before .before .before .before .before .before .operation .ensures) (not-false _ (c .before .before .before .if1 .left)) in
+    let l = c .before .before .before .before .before .before .before .before .before .before .before .before .before .loop .inv in
+    let q = turn-one (c .before .before .before .before .before .before .before .before .before .operation .ensures) (not-false _ (c .before .before .before .if1 .left)) in
     let o = came (q .compiles) (c .before .part .given .1) in
     record {
       done = snoc (l .done) (o .tree);
-      same = sym (goes-on _ _ (l .done) _ _ (c .before .before .before .before .before .before .before .before .before .before .operator-at .ensures) _ (c .before .before .before .before .before .before .before .before .before .before .before .loop-test .taken) (q .is) ∙ then-got _ (o .is)) ∙ l .same;
+      same = sym (goes-on _ _ (l .done) _ _ (c .before .before .before .before .before .before .before .before .before .before .before .operator-at .ensures) _ (c .before .before .before .before .before .before .before .before .before .before .before .before .loop-test .taken) (q .is) ∙ then-got _ (o .is)) ∙ l .same;
       lays = one-operation (l .done) (o .tree) (l .lays) (o .lays);
-      long = c .before .before .before .before .before .before .before .image .given ∙ l .long;
+      long = c .before .before .before .before .before .before .before .before .image .given ∙ l .long;
     }
 
 same-length-3 : tie.Need-same-length-3 Inv-loop μ-loop
