@@ -178,8 +178,9 @@ fn for_statement(
     ensures { λ r. ⌜ Stated context output (now (image .entry)) (now (image .exit)) r (parseFor (now (source .entry)) (heldBy (context .names) (now (table .entry))) (exprAt (now (source .entry)) context (now (table .entry)) left) (stmtAt (now (source .entry)) context (now (table .entry)) inner) (tokenAt (now (source .entry)) at)) ⌝ }
 {
     let head = for_head(source, table, image, context, at, left, output);
-    let counted = head.part;
-    let held = head.output;
+    let first = head.answer;
+    let counted = first.part;
+    let held = first.output;
     let id = head.id;
     let part = followed_by(source, counted, kind::DO);
     let Part::Read { next } = part else {

@@ -234,10 +234,10 @@ for-statement-same-length t c = search needs
 for-statement-returns : (t : ℕ) → for-statement-lts.Need-returns (for-statement-calls t) (for-statement-at t) for-statement.Post
 for-statement-returns t c =
     let e = c .enum-told .given .1 in
-    Compiles.fails (for-as _ _ _ _ _ ∙ then-failed _ (pass (follow _ _ (headed (c .before .before .before .before .before .before .for-head .ensures)) (c .before .before .followed-by .ensures)) e)) e
+    Compiles.fails (for-as _ _ _ _ _ ∙ then-failed _ (pass (follow _ _ (headed (c .before .before .before .before .before .before .before .for-head .ensures)) (c .before .before .followed-by .ensures)) e)) e
 
 for-statement-statement-requires : (t : ℕ) → for-statement-lts.Need-statement-requires (for-statement-calls t) (for-statement-at t) for-statement.Post
-for-statement-statement-requires t c κs = (omega (arith, c .before .before .before .before .before .before .before .before .before .before .before .before .before .pre .0), tt)
+for-statement-statement-requires t c κs = (omega (arith, c .before .before .before .before .before .before .before .before .before .before .before .before .before .before .pre .0), tt)
 
 for-statement-enum-told-2 : (t : ℕ) → for-statement-lts.Need-enum-told-2 (for-statement-calls t) (for-statement-at t) for-statement.Post
 for-statement-enum-told-2 t c = search needs
@@ -250,7 +250,7 @@ for-statement-same-length-2 t c = search needs
 
 for-statement-returns-2 : (t : ℕ) → for-statement-lts.Need-returns-2 (for-statement-calls t) (for-statement-at t) for-statement.Post
 for-statement-returns-2 t c =
-    let x = came (follow _ _ (headed (c .before .before .before .before .before .before .before .before .before .before .before .before .before .for-head .ensures)) (c .before .before .before .before .before .before .before .before .before .followed-by .ensures)) (c .before .before .before .before .before .before .before .part .given .1) in
+    let x = came (follow _ _ (headed (c .before .before .before .before .before .before .before .before .before .before .before .before .before .before .for-head .ensures)) (c .before .before .before .before .before .before .before .before .before .followed-by .ensures)) (c .before .before .before .before .before .before .before .part .given .1) in
     let e = c .enum-told3 .given .1 in
     Compiles.fails (for-as _ _ _ _ _ ∙ then-got _ (x .is) ∙ then-failed _ (pass (compiled (c .before .before .before .before .statement .ensures)) e)) e
 
@@ -261,12 +261,12 @@ for-statement-emit-jump-requires : (t : ℕ) → for-statement-lts.Need-emit-jum
 for-statement-emit-jump-requires t c κs = search needs
 
 for-statement-same-length-3 : (t : ℕ) → for-statement-lts.Need-same-length-3 (for-statement-calls t) (for-statement-at t) for-statement.Post
-for-statement-same-length-3 t c = omega (arith, c .before .before .before .before .before .before .before .before .before .before .before .before .before .before .before .before .before .before .before .before .before .before .for-head .kept, c .before .before .before .before .before .before .before .before .before .before .before .before .before .statement .kept, c .before .before .before .before .before .before .emit-memory .kept, c .before .before .emit-jump .kept)
+for-statement-same-length-3 t c = omega (arith, c .before .before .before .before .before .before .before .before .before .before .before .before .before .before .before .before .before .before .before .before .before .before .before .for-head .kept, c .before .before .before .before .before .before .before .before .before .before .before .before .before .statement .kept, c .before .before .before .before .before .before .emit-memory .kept, c .before .before .emit-jump .kept)
 
 for-statement-returns-3 : (t : ℕ) → for-statement-lts.Need-returns-3 (for-statement-calls t) (for-statement-at t) for-statement.Post
 unfolding treeOperand
 for-statement-returns-3 t c =
-    let x = came (follow _ _ (headed (c .before .before .before .before .before .before .before .before .before .before .before .before .before .before .before .before .before .before .before .before .before .before .for-head .ensures)) (c .before .before .before .before .before .before .before .before .before .before .before .before .before .before .before .before .before .before .followed-by .ensures)) (c .before .before .before .before .before .before .before .before .before .before .before .before .before .before .before .before .part .given .1) in
+    let x = came (follow _ _ (headed (c .before .before .before .before .before .before .before .before .before .before .before .before .before .before .before .before .before .before .before .before .before .before .before .for-head .ensures)) (c .before .before .before .before .before .before .before .before .before .before .before .before .before .before .before .before .before .before .followed-by .ensures)) (c .before .before .before .before .before .before .before .before .before .before .before .before .before .before .before .before .part .given .1) in
     put-as (for-as _ _ _ _ _ ∙ then-got _ (x .is)) (within-form (loopOf (x .tree)) (c .before .before .before .before .before .before .before .before .before .before .before .before .before .statement .ensures)
     (λ s l. for-lays (x .tree) s (x .holds .0) (x .holds .1) l (c .before .before .before .before .before .before .emit-memory .ensures) (c .before .before .emit-jump .ensures)))
 

@@ -14,19 +14,15 @@ token-at-requires c κs = search needs
 set-x-requires : tie.Need-set-x-requires
 set-x-requires c κs = search needs
 
-head-of-requires : tie.Need-head-of-requires
-head-of-requires c κs = search needs
-
 same-length : tie.Need-same-length
 same-length c = search needs
 
 returns : tie.Need-returns
 unfolding counterOf headWords treeId
 returns c =
-    let token = c .before .before .before .before .before .before in
-    let h = c .head-of .ensures in
-    rw (h .0, h .1, h .2) (heads Head.hash Id.x (λ _. refl) (λ _ _. refl)
-    (head-hash _ _ _ _ _ (token .before .token-at .ensures) (c .before .before .before .before .before .if1 .taken)) (c .before .before .before .set-x .ensures))
+    let taken = c .before .before .before .before in
+    heads Head.hash Id.x (λ _. refl) (λ _ _. refl)
+    (head-hash _ _ _ _ _ (taken .before .before .token-at .ensures) (taken .if1 .taken)) (c .before .before .set-x .ensures)
 
 symbol-at-requires : tie.Need-symbol-at-requires
 symbol-at-requires c κs = search needs
@@ -49,23 +45,19 @@ plain-requires c κs = search needs
 store-requires : tie.Need-store-requires
 store-requires c κs = search needs
 
-head-of-requires-2 : tie.Need-head-of-requires-2
-head-of-requires-2 c κs = search needs
-
 same-length-2 : tie.Need-same-length-2
 same-length-2 c = search needs
 
 returns-3 : tie.Need-returns-3
 unfolding counterOf headWords treeCell treeOperand
 returns-3 c =
-    let plain = c .before .before .before .before in
+    let plain = c .before .before .before in
     let known = plain .before .before .before in
     let symbol = known .before .before in
     let token = symbol .before .before .before in
-    let h = c .head-of2 .ensures in
-    rw (h .0, h .1, h .2) (heads (Head.integer (treeId _)) (treeId _) (λ _. refl) (λ _ _. refl)
+    heads (Head.integer (treeId _)) (treeId _) (λ _. refl) (λ _ _. refl)
     (head-integer _ _ _ _ _ (token .token-at .ensures) _ (symbol .before .if1 .left) (symbol .symbol-at .ensures) _ (known .symbol .given .1))
-    (rw (plain .plain .ensures) at (c .before .before .before .store .ensures)))
+    (rw (plain .plain .ensures) at (c .before .before .store .ensures))
 
 pub for-head-spec : {M : Type 1} → statement M
 for-head-spec =
@@ -73,7 +65,6 @@ for-head-spec =
     (tie.spec
     token-at-requires
     set-x-requires
-    head-of-requires
     same-length
     returns
     symbol-at-requires
@@ -82,6 +73,5 @@ for-head-spec =
     returns-2
     plain-requires
     store-requires
-    head-of-requires-2
     same-length-2
     returns-3)
