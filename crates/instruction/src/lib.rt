@@ -1,7 +1,6 @@
 // The instructions of the DDP-516: the table of the generic ones, the decoder and the encoder.
 ghost use mathlib.Core.Path.{_≡_};
 ghost use Prim.Native.Nat.{_<_};
-ghost use Rattle.word.specs.Arithmetic.{bit};
 ghost use Rattle.instruction.specs.Table.{tableOf};
 ghost use Rattle.instruction.specs.Decode.{slotOf, genericIn, isShift, shiftOf, memoryOf, decodeIn};
 ghost use Rattle.instruction.specs.Agreement.{Agreement};
@@ -198,20 +197,14 @@ pub fn decode(table: &[u16; 64], w: u16) -> Instruction
     generic(table, w)
 }
 
-fn flag(b: bool) -> u16
-    ensures { λ r. ⌜ (r ≡ bit b) × (r < 2) ⌝ }
-{
-    if b { 1 } else { 0 }
-}
-
 // The word of a memory-reference instruction; LDX is laid with its tag set.
 pub fn encode_memory(code: u16, indirect: bool, tag: bool, sector: bool, address: u16) -> u16
     ensures { λ r. ⌜ r ≡ memoryWord code indirect tag sector address ⌝ }
 {
-    flag(indirect) * 0o100000
-        + flag(tag) * 0o40000
+    word::bit(indirect) * 0o100000
+        + word::bit(tag) * 0o40000
         + code % 16 * 0o2000
-        + flag(sector) * 0o1000
+        + word::bit(sector) * 0o1000
         + address % 512
 }
 

@@ -29,6 +29,12 @@ pastOf p k = (p + 1 + k) % 16384
 abbrev pub onward : Machine → ℕ → Machine
 onward m k = atP m (pastOf (m .p) k)
 
+-- "IRS skips on zero"
+abbrev pub incrementDef : ℕ → Machine → List ℕ → State
+incrementDef e m image =
+    let w = (getD image e 0 + 1) % 65536 in
+    state (onward m (bit (eqb w 0))) (set image e w)
+
 -- a memory-reference instruction at its effective address e
 unfoldable pub memoryDef : ℕ → ℕ → Machine → List ℕ → State
 memoryDef code e m image =
@@ -38,8 +44,7 @@ memoryDef code e m image =
     -- "JST keeps the target's top two bits"
     (cond (eqb code JST) (state (atP m (pastOf e 0)) (set image e (v / 16384 * 16384 + pastOf (m .p) 0)))
     (cond (eqb code CAS) (state (onward m (compareOf (m .registers .a) v)) image)
-    -- "IRS skips on zero"
-    (cond (eqb code IRS) (state (onward m (bit (eqb ((v + 1) % 65536) 0))) (set image e ((v + 1) % 65536)))
+    (cond (eqb code IRS) (incrementDef e m image)
     (cond (eqb code LDX) (state (onward m 0) (set image 0 v))
     (state (onward (withRegisters m (operateOf code v (m .registers))) 0) image))))))
 

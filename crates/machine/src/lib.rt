@@ -13,6 +13,15 @@ mod address;
 pub mod failure;
 mod step;
 
+const IMAGE_WORDS: usize = 16384;
+
+const LAST_ADDRESS: u16 = 16383;
+
+const LARGEST_BUDGET: u32 = 1000000;
+
+// Half of the clock's turn: a deadline so far behind, or further, is ahead.
+const HALF_TURN: u32 = 2147483648;
+
 pub struct Machine {
     pub registers: Registers,
     pub p: u16,
@@ -97,7 +106,7 @@ fn steps(image: &mut [u16], m: Machine, k: Clock, q: Request) -> Report
 pub fn run(image: &mut [u16], machine: Machine, clock: Clock, request: Request) -> Report
     ensures { λ r. ⌜ (r ≡ reportOf request clock (runDef request (state machine (now (image .entry))))) × (now (image .exit) ≡ runDef request (state machine (now (image .entry))) .state .image) ⌝ }
 {
-    if image.len() != 16384 {
+    if image.len() != IMAGE_WORDS {
         return ended(
             request,
             0,
@@ -106,7 +115,7 @@ pub fn run(image: &mut [u16], machine: Machine, clock: Clock, request: Request) 
             clock,
         );
     }
-    if 16383 < machine.p {
+    if LAST_ADDRESS < machine.p {
         return ended(
             request,
             0,
@@ -115,7 +124,7 @@ pub fn run(image: &mut [u16], machine: Machine, clock: Clock, request: Request) 
             clock,
         );
     }
-    if 1000000 < request.budget {
+    if LARGEST_BUDGET < request.budget {
         return ended(
             request,
             0,
@@ -131,5 +140,5 @@ pub fn run(image: &mut [u16], machine: Machine, clock: Clock, request: Request) 
 pub fn due(clock: Clock, deadline: u32) -> bool
     ensures { λ r. ⌜ r ≡ dueOf clock deadline ⌝ }
 {
-    std::num::wrapping_sub_u32(clock.common, deadline) < 2147483648
+    std::num::wrapping_sub_u32(clock.common, deadline) < HALF_TURN
 }

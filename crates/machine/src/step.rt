@@ -2,10 +2,9 @@
 ghost use mathlib.Core.Path.{_≡_};
 ghost use Prim.Native.Nat.{_<_};
 ghost use lib.ListN.{length};
-ghost use Rattle.word.specs.Arithmetic.{bit};
 ghost use Rattle.instruction.specs.Table.{tableOf};
 ghost use Rattle.machine.specs.State.{state, withRegisters};
-ghost use Rattle.machine.specs.Step.{pastOf, onward, memoryDef, genericDef, stepDef, answerOf, imageOf};
+ghost use Rattle.machine.specs.Step.{pastOf, onward, incrementDef, memoryDef, genericDef, stepDef, answerOf, imageOf};
 use crate::Machine;
 use crate::address;
 use crate::address::Address;
@@ -29,12 +28,6 @@ fn past(p: u16, k: u16) -> u16
     (p + 1 + k) % 16384
 }
 
-fn flag(b: bool) -> u16
-    ensures { λ r. ⌜ (r ≡ bit b) × (r < 2) ⌝ }
-{
-    if b { 1 } else { 0 }
-}
-
 // The registers r, and on to the k-th word after the next.
 fn advance(m: Machine, r: Registers, k: u16) -> Machine
     requires { ⌜ (m .p < 16384) × (k < 3) ⌝ }
@@ -43,6 +36,18 @@ fn advance(m: Machine, r: Registers, k: u16) -> Machine
     let mut n = m;
     n.registers = r;
     n.p = past(m.p, k);
+    n
+}
+
+// IRS at its effective address e.
+fn increment(image: &mut [u16], m: Machine, e: u16) -> Machine
+    requires { ⌜ (length (now image) ≡ 16384) × (m .p < 16384) × (e < 16384) ⌝ }
+    ensures { λ r. ⌜ (r ≡ incrementDef e m (now (image .entry)) .machine) × (now (image .exit) ≡ incrementDef e m (now (image .entry)) .image) ⌝ }
+{
+    let mut n = m;
+    let w = ((image[e as usize] as u32 + 1) % 65536) as u16;
+    image[e as usize] = w;
+    n.p = past(m.p, word::bit(w == 0));
     n
 }
 
@@ -75,17 +80,7 @@ fn memory(image: &mut [u16], m: Machine, code: u16, e: u16) -> Machine
             n.p = past(p, word::compare(a, v));
             n
         }
-        code::IRS => {
-            let w = ((v as u32 + 1) % 65536) as u16;
-            image[e as usize] = w;
-            if w == 0 {
-                n.p = past(p, 1);
-                n
-            } else {
-                n.p = past(p, 0);
-                n
-            }
-        }
+        code::IRS => increment(&mut *image, m, e),
         code::LDX => {
             image[0] = v;
             n.p = past(p, 0);
@@ -106,7 +101,7 @@ fn generic(m: Machine, slot: usize) -> Machine
         n.halted = true;
         return n;
     }
-    let k = flag(effect::skips(slot, r, s));
+    let k = word::bit(effect::skips(slot, r, s));
     advance(m, effect::unary(slot, r), k)
 }
 

@@ -131,7 +131,7 @@ fn machine_of(words: &[u32]) -> Machine
 fn number(b: bool) -> u32
     ensures { λ r. ⌜ r ≡ bit b ⌝ }
 {
-    if b { 1 } else { 0 }
+    word::bit(b) as u32
 }
 
 fn outcome(o: Outcome) -> u32

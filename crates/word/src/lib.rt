@@ -2,7 +2,7 @@
 // language uses too.
 ghost use mathlib.Core.Path.{_≡_};
 ghost use Prim.Native.Nat.{_<_};
-ghost use Rattle.word.specs.Arithmetic.{biased, overflows, sumOf, differenceOf, compareOf};
+ghost use Rattle.word.specs.Arithmetic.{bit, biased, overflows, sumOf, differenceOf, compareOf};
 
 pub mod bytes;
 pub mod shift;
@@ -11,6 +11,12 @@ pub mod shift;
 pub struct Flagged {
     pub word: u16,
     pub flag: bool,
+}
+
+pub fn bit(b: bool) -> u16
+    ensures { λ r. ⌜ (r ≡ bit b) × (r < 2) ⌝ }
+{
+    if b { 1 } else { 0 }
 }
 
 // The signed value plus 32768.

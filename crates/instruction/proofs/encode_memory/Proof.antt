@@ -4,14 +4,14 @@ use borrow.Author.Needs.{needs}
 use Rattle.instruction.proofs.encode_memory.Statement.{statement}
 use Rattle.instruction.proofs.encode_memory.Tie as tie
 
-flag-requires : tie.Need-flag-requires
-flag-requires c κs = search needs
+bit-requires : tie.Need-bit-requires
+bit-requires c κs = search needs
 
 mul-result : tie.Need-mul-result
 mul-result c = search needs
 
-flag-requires-2 : tie.Need-flag-requires-2
-flag-requires-2 c κs = search needs
+bit-requires-2 : tie.Need-bit-requires-2
+bit-requires-2 c κs = search needs
 
 mul-result-2 : tie.Need-mul-result-2
 mul-result-2 c = search needs
@@ -25,8 +25,8 @@ mul-result-3 c = search needs
 add-result-2 : tie.Need-add-result-2
 add-result-2 c = search needs
 
-flag-requires-3 : tie.Need-flag-requires-3
-flag-requires-3 c κs = search needs
+bit-requires-3 : tie.Need-bit-requires-3
+bit-requires-3 c κs = search needs
 
 mul-result-4 : tie.Need-mul-result-4
 mul-result-4 c = search needs
@@ -39,20 +39,20 @@ add-result-4 c = search needs
 
 returns : tie.Need-returns
 unfolding memoryWord
-returns c = simp (c .flag3 .ensures .0, c .before .flag2 .ensures .0, c .before .before .flag .ensures .0)
+returns c = simp (c .bit3 .ensures .0, c .before .bit2 .ensures .0, c .before .before .bit .ensures .0)
 
 pub encode-memory-spec : {M : Type 1} → statement M
 encode-memory-spec =
     tie.close
     (tie.spec
-    flag-requires
+    bit-requires
     mul-result
-    flag-requires-2
+    bit-requires-2
     mul-result-2
     add-result
     mul-result-3
     add-result-2
-    flag-requires-3
+    bit-requires-3
     mul-result-4
     add-result-3
     add-result-4

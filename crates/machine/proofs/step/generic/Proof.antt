@@ -15,8 +15,8 @@ returns c = rw (c .before .if1 .taken, c .advance .ensures)
 skips-requires : tie.Need-skips-requires
 skips-requires c κs = search needs
 
-flag-requires : tie.Need-flag-requires
-flag-requires c κs = search needs
+bit-requires : tie.Need-bit-requires
+bit-requires c κs = search needs
 
 unary-requires : tie.Need-unary-requires
 unary-requires c κs = search needs
@@ -26,7 +26,7 @@ advance-requires-2 c κs = search needs
 
 returns-2 : tie.Need-returns-2
 unfolding genericDef
-returns-2 c = simp (ne-eqb _ _ (c .before .before .before .before .if1 .left), c .advance2 .ensures, c .before .unary .ensures, c .before .before .flag .ensures .0, c .before .before .before .skips .ensures)
+returns-2 c = simp (ne-eqb _ _ (c .before .before .before .before .if1 .left), c .advance2 .ensures, c .before .unary .ensures, c .before .before .bit .ensures .0, c .before .before .before .skips .ensures)
 
 pub generic-spec : {M : Type 1} → statement M
 generic-spec =
@@ -35,7 +35,7 @@ generic-spec =
     advance-requires
     returns
     skips-requires
-    flag-requires
+    bit-requires
     unary-requires
     advance-requires-2
     returns-2)

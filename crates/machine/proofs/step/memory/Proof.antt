@@ -1,5 +1,5 @@
 -- `machine::step::memory` meets its contract: each arm is the case of `memoryDef` for its code. Assumes nothing.
-use borrow.Author.Tests.{eq-eqb, ne-eqb}
+use borrow.Author.Tests.{ne-eqb}
 use native.Mathlib.Omega.{arith}
 use mathlib.Core.Path.{refl}
 use Rattle.word.proofs.Bounds.{compare-below}
@@ -47,32 +47,14 @@ compare-requires c κs = search needs
 past-requires-4 : tie.Need-past-requires-4
 past-requires-4 c κs = (omega arith, rw (c .compare .ensures) (compare-below _ _))
 
-cast-w : tie.Need-cast-w
-cast-w c = omega (arith, c .before .slice-known2 .given (c .before .before .before .before .args .e))
-
-add-w : tie.Need-add-w
-add-w c = omega (arith, c .before .slice-known2 .given (c .before .before .before .before .args .e))
-
-cast-w-2 : tie.Need-cast-w-2
-cast-w-2 c = search needs
-
-mul-image-4 : tie.Need-mul-image-4
-mul-image-4 c = search needs
+increment-requires : tie.Need-increment-requires
+increment-requires c κs = search needs
 
 slice-write-image-3 : tie.Need-slice-write-image-3
 slice-write-image-3 c = search needs
 
 past-requires-5 : tie.Need-past-requires-5
 past-requires-5 c κs = search needs
-
-past-requires-6 : tie.Need-past-requires-6
-past-requires-6 c κs = search needs
-
-slice-write-image-4 : tie.Need-slice-write-image-4
-slice-write-image-4 c = search needs
-
-past-requires-7 : tie.Need-past-requires-7
-past-requires-7 c κs = search needs
 
 operate-requires : tie.Need-operate-requires
 operate-requires c κs = search needs
@@ -107,25 +89,18 @@ same-length-3 c = search needs
 
 returns-5 : tie.Need-returns-5
 unfolding memoryDef
-returns-5 c = rw (c .before .before .match .keys5, c .past5 .ensures .0, eq-eqb _ _ (c .before .if1 .taken)) (refl, refl)
+returns-5 c = rw (c .before .before .before .before .match .keys5) (c .before .before .increment .ensures)
 
 same-length-4 : tie.Need-same-length-4
 same-length-4 c = search needs
 
 returns-6 : tie.Need-returns-6
 unfolding memoryDef
-returns-6 c = rw (c .before .before .match .keys5, c .past6 .ensures .0, ne-eqb _ _ (c .before .if1 .left)) (refl, refl)
-
-same-length-5 : tie.Need-same-length-5
-same-length-5 c = search needs
+returns-6 c = rw (c .before .match .keys6, c .past5 .ensures .0) (refl, refl)
 
 returns-7 : tie.Need-returns-7
 unfolding memoryDef
-returns-7 c = rw (c .before .match .keys6, c .past7 .ensures .0) (refl, refl)
-
-returns-8 : tie.Need-returns-8
-unfolding memoryDef
-returns-8 c = simp (ne-eqb _ _ (c .before .before .match .rest .0 .0 .0 .0 .0 .1), ne-eqb _ _ (c .before .before .match .rest .0 .0 .0 .0 .1), ne-eqb _ _ (c .before .before .match .rest .0 .0 .0 .1), ne-eqb _ _ (c .before .before .match .rest .0 .0 .1), ne-eqb _ _ (c .before .before .match .rest .0 .1), ne-eqb _ _ (c .before .before .match .rest .1), c .advance .ensures, c .before .operate .ensures) (refl, refl)
+returns-7 c = simp (ne-eqb _ _ (c .before .before .match .rest .0 .0 .0 .0 .0 .1), ne-eqb _ _ (c .before .before .match .rest .0 .0 .0 .0 .1), ne-eqb _ _ (c .before .before .match .rest .0 .0 .0 .1), ne-eqb _ _ (c .before .before .match .rest .0 .0 .1), ne-eqb _ _ (c .before .before .match .rest .0 .1), ne-eqb _ _ (c .before .before .match .rest .1), c .advance .ensures, c .before .operate .ensures) (refl, refl)
 
 pub memory-spec : {M : Type 1} → statement M
 memory-spec =
@@ -144,15 +119,9 @@ memory-spec =
     past-requires-3
     compare-requires
     past-requires-4
-    cast-w
-    add-w
-    cast-w-2
-    mul-image-4
+    increment-requires
     slice-write-image-3
     past-requires-5
-    past-requires-6
-    slice-write-image-4
-    past-requires-7
     operate-requires
     advance-requires
     returns
@@ -165,6 +134,4 @@ memory-spec =
     returns-5
     same-length-4
     returns-6
-    same-length-5
-    returns-7
-    returns-8)
+    returns-7)
