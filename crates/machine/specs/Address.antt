@@ -12,7 +12,7 @@ use Rattle.machine.specs.declared.address.Address.the-variants.{At, Long
 abbrev pub baseOf : ℕ → Bool → ℕ → ℕ
 baseOf p sector address = cond sector (p / 512 * 512 + address) address
 
--- "A set tag adds X"; "Addresses are modulo 16,384"
+-- "A set tag (LDX's own excepted) adds X"; "Addresses, and P after a step, are modulo 16,384"
 abbrev pub indexedOf : ℕ → Bool → ℕ → ℕ
 indexedOf address tag x = cond tag ((address + x) % 16384) address
 
