@@ -76,12 +76,14 @@ fn run(image: &mut [u16], entry: u16) {
     print_number(b"a=", report.machine.registers.a as u32);
 }
 
-fn listing(source: &[u8], image: &mut [u16], scratch: &mut [u16]) {
+// Answers whether an image was laid.
+fn listing(source: &[u8], image: &mut [u16], scratch: &mut [u16]) -> bool {
     let answer = compiler::compile(source, image, scratch);
     let mut out = [0u8; 262144];
     let size = listing_lines::lines(answer, image, &mut out);
     print_start(&out, size);
-    if all_are(image, MARK) {
+    let kept = all_are(image, MARK);
+    if kept {
         print(b"image=kept\n");
     } else {
         print(b"image=laid\n");
@@ -91,25 +93,34 @@ fn listing(source: &[u8], image: &mut [u16], scratch: &mut [u16]) {
     } else {
         print(b"scratch=left\n");
     }
-    if let Answer::Accepted {
-        entry,
-        words: _,
-        globals: _,
-    } = answer {
-        run(image, entry);
-    }
+    !kept
 }
 
 // A case with so many words of image and of scratch.
-fn lend(source: &[u8], image_size: u32, scratch_size: u32) {
+fn lend(source: &[u8], image_size: u32, scratch_size: u32) -> bool {
     let mut image = [MARK; 16385];
     let mut scratch = [MARK; 12289];
     let words = image_size as usize;
     let spare = scratch_size as usize;
     if words <= 16385 {
         if spare <= 12289 {
-            listing(source, &mut image[0..words], &mut scratch[0..spare]);
+            return listing(source, &mut image[0..words], &mut scratch[0..spare]);
         }
+    }
+    false
+}
+
+// Compiled once more, and run.
+fn run_source(source: &[u8]) {
+    let mut image = [0u16; 16384];
+    let mut scratch = [0u16; 12288];
+    let answer = compiler::compile(source, &mut image, &mut scratch);
+    if let Answer::Accepted {
+        entry,
+        words: _,
+        globals: _,
+    } = answer {
+        run(&mut image, entry);
     }
 }
 
@@ -128,7 +139,9 @@ fn case(text: &[u8], at: usize) -> usize {
     let source = part_end(text, name_end, 1);
     let end = part_end(text, source, size.value);
     if source <= end {
-        lend(&text[source..end], image.value, scratch.value);
+        if lend(&text[source..end], image.value, scratch.value) {
+            run_source(&text[source..end]);
+        }
     }
     part_end(text, end, 1)
 }
