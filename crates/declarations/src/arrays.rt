@@ -40,6 +40,9 @@ use source::kind::SEMICOLON;
 use source::token_at;
 use symbols::Kind;
 
+// An array word is tagged, so that X is added.
+const TAG: u16 = 0o40000;
+
 // `[` and the constant that gives the size.
 fn bracketed(source: &[u8], table: &[u16], names: usize, at: usize) -> ConstantAnswer
     ensures { λ r. ⌜ gotWith (r .part) (r .value) ≡ andThen (expectDef kinds.leftBracket (now (source .entry)) at) (λ _ n. parseInRange (now (source .entry)) (tables.heldBy names (now (table .entry))) (λ v. leb (sizeOf v) 8192) n) ⌝ }
@@ -110,7 +113,7 @@ fn array(source: &[u8], table: &mut [u16], image: &mut [u16], state: State, at: 
     let name = head.name;
     let words = state.words;
     let top = state.array;
-    store_global(image, words, 0o40000 + top);
+    store_global(image, words, TAG + top);
     let first = top - size;
     let part = initials(
         source,

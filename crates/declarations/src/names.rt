@@ -86,12 +86,15 @@ pub fn new_name(source: &[u8], table: &[u16], scope: Scope, limit: u16, at: usiz
     }
 }
 
+// The words of sector 0 that globals may take.
+const GLOBALS: u16 = 0o600;
+
 // At a declared name that takes a word: 11 where sector 0 has none left.
 pub fn name_limit(scope: Scope) -> u16
     ensures { λ r. ⌜ r ≡ nameLimit (scopeOf scope []) ⌝ }
 {
     if scope.level == 0 {
-        if 0o600 <= scope.words {
+        if GLOBALS <= scope.words {
             return failures::NO_GLOBAL_LEFT;
         }
     }

@@ -152,11 +152,16 @@ fn main_body(
     expressions::Answer { part, output: last }
 }
 
+// The first word of code, and element 0 of the first array.
+const FIRST_CODE: u16 = 0o1000;
+
+const FIRST_ARRAY: u16 = 16383;
+
 fn start_state() -> State
     ensures { λ r. ⌜ Starts r ⌝ }
 {
     let output = Output {
-        code: 0o1000,
+        code: FIRST_CODE,
         pool: empty_pool(),
     };
     let ends = Ends {
@@ -168,7 +173,7 @@ fn start_state() -> State
         words: 0,
         output,
         ends,
-        array: 16383,
+        array: FIRST_ARRAY,
     }
 }
 

@@ -24,6 +24,9 @@ use operands::Subscript;
 // The last address that 16 bits hold, far above the memory.
 pub const LAST_ADDRESS: u16 = 65535;
 
+// The first word of the globals.
+const FIRST_GLOBAL: u32 = 0o200;
+
 // As many words as a sector has: no sector holds a longer pool.
 const POOL_WORDS: usize = 512;
 
@@ -166,7 +169,11 @@ pub fn emit_shift(image: &mut [u16], output: Output, kind: u16, amount: u16) -> 
 pub fn emit_through(image: &mut [u16], output: Output, code: u16, number: u16) -> Output
     ensures { λ r. ⌜ emittedBy r (now (image .exit)) ≡ withWord (emittedBy output (now (image .entry))) (map.reference code true (0o200 + number)) ⌝ }
 {
-    emit_word(image, output, reference(code, true, 0o200 + number as u32))
+    emit_word(
+        image,
+        output,
+        reference(code, true, FIRST_GLOBAL + number as u32),
+    )
 }
 
 // A jump to a code address.
@@ -196,7 +203,7 @@ fn id_address(context: Context, id: Id) -> u32
 {
     match id {
         Id::X => 0,
-        Id::Global { number } => 0o200 + number as u32,
+        Id::Global { number } => FIRST_GLOBAL + number as u32,
         Id::Local {
             procedure: _,
             number,

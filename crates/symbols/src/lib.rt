@@ -12,6 +12,24 @@ use source::byte::name_byte;
 // Words of an entry: the packed name, the level, and a code, a number and a value that give the kind.
 pub const ENTRY: usize = 7;
 
+// The codes of the kinds; any other is a name that nothing is known of.
+const INTEGER: u16 = 1;
+
+const CONSTANT: u16 = 2;
+
+const COMPCONSTANT: u16 = 3;
+
+const ARRAY: u16 = 4;
+
+const PROCEDURE: u16 = 5;
+
+const ACCUMULATOR_PROCEDURE: u16 = 6;
+
+const UNKNOWN: u16 = 0;
+
+// X and no second character.
+const X: u16 = 0o054000;
+
 // The first six characters of a name, two a word, 0 where there is none.
 pub struct Packed {
     pub one: u16,
@@ -78,7 +96,7 @@ pub fn pack(source: &[u8], name: Token) -> Packed
 pub fn is_x(name: Packed) -> bool
     ensures { λ r. ⌜ r ≡ isX (unpack name) ⌝ }
 {
-    if name.one == 0o054000 {
+    if name.one == X {
         if name.two == 0 {
             return name.three == 0;
         }
@@ -90,23 +108,23 @@ pub fn is_x(name: Packed) -> bool
 fn kind_of(code: u16, number: u16, value: u16) -> Kind
     ensures { λ r. ⌜ r ≡ kindOf code number value ⌝ }
 {
-    if code == 1 {
+    if code == INTEGER {
         Kind::Integer { number }
-    } else if code == 2 {
+    } else if code == CONSTANT {
         Kind::Constant { number, value }
-    } else if code == 3 {
+    } else if code == COMPCONSTANT {
         Kind::Compconstant { value }
-    } else if code == 4 {
+    } else if code == ARRAY {
         Kind::Array {
             number,
             size: value,
         }
-    } else if code == 5 {
+    } else if code == PROCEDURE {
         Kind::Procedure {
             number,
             accumulator: false,
         }
-    } else if code == 6 {
+    } else if code == ACCUMULATOR_PROCEDURE {
         Kind::Procedure {
             number,
             accumulator: true,
@@ -122,22 +140,22 @@ fn data_of(kind: Kind) -> Data
 {
     match kind {
         Kind::Integer { number } => Data {
-            code: 1,
+            code: INTEGER,
             number,
             value: 0,
         },
         Kind::Constant { number, value } => Data {
-            code: 2,
+            code: CONSTANT,
             number,
             value,
         },
         Kind::Compconstant { value } => Data {
-            code: 3,
+            code: COMPCONSTANT,
             number: 0,
             value,
         },
         Kind::Array { number, size } => Data {
-            code: 4,
+            code: ARRAY,
             number,
             value: size,
         },
@@ -145,12 +163,16 @@ fn data_of(kind: Kind) -> Data
             number,
             accumulator,
         } => Data {
-            code: if accumulator { 6 } else { 5 },
+            code: if accumulator {
+                ACCUMULATOR_PROCEDURE
+            } else {
+                PROCEDURE
+            },
             number,
             value: 0,
         },
         Kind::Unknown => Data {
-            code: 0,
+            code: UNKNOWN,
             number: 0,
             value: 0,
         },
