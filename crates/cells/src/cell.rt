@@ -47,6 +47,13 @@ fn no_operand() -> Operand {
     Operand::Literal { value: 0 }
 }
 
+// What a failed cell's answer holds.
+fn no_cell() -> Cell {
+    Cell::Plain {
+        operand: no_operand(),
+    }
+}
+
 // A token as an operand, by what it stands for.
 fn operand_of(t: Token, symbol: Symbol) -> OperandAnswer
     ensures { λ r. ⌜ gotWith (r .part) (treeOperand (r .operand)) ≡ operandBy (treeSymbol symbol) t ⌝ }
@@ -176,13 +183,6 @@ pub fn cell_from(
                 cell: Cell::Item { array, subscript },
             }
         }
-    }
-}
-
-// What a failed cell's answer holds.
-fn no_cell() -> Cell {
-    Cell::Plain {
-        operand: no_operand(),
     }
 }
 

@@ -1,5 +1,5 @@
 // Parsing of constants, cells and the first token of a term or statement: each as its definition in syntax, from an offset.
-// An answer's value counts where its part was read. Types, failures and constants are here.
+// An answer's value counts where its part was read. Here: the types, a failure at a token, and constants; `failures` has the numbers.
 ghost use mathlib.Core.Path.{_≡_};
 ghost use Prim.Native.Nat.{ℕ, min};
 ghost use lib.Dec.{leb};

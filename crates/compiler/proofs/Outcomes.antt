@@ -13,13 +13,14 @@ use Rattle.machine.specs.declared.Request.{Request}
 use Rattle.machine.specs.declared.Machine.{Machine}
 use Rattle.machine.specs.declared.Outcome.{Outcome}
 use Rattle.machine.specs.declared.Report.{Report}
-use Rattle.machine.specs.Failure.{refused}
+use Rattle.machine.specs.Failure.{wrongImage, overBudget, wrongP, refused}
 use Rattle.machine.specs.State as machine
-use Rattle.machine.specs.Run.{Ran, runDef, reportOf}
+use Rattle.machine.specs.Run.{Ran, ran, runDef, reportOf}
+use Rattle.runs.specs.Ends.{Refusal}
 use Rattle.runs.proofs.Laws.{run-laws}
 use Rattle.emission.specs.Compile.{Result, compileDef}
 use Rattle.semantics.proofs.Demand.Laws.{emission-laws}
-use Rattle.failure_laws.proofs.Placed.Numbered.{numbered}
+use Rattle.failure_laws.proofs.Placed.Numbered.{numbered, short-enough}
 use Rattle.compiler.specs.declared.Answer.{Answer}
 use Rattle.compiler.specs.Compile.{resultOn, answerOf, imageAfter}
 use Rattle.compiler.specs.Closing.{RunCalled}
@@ -28,7 +29,7 @@ use Rattle.compiler.specs.Outcomes.{CompileEnds, RunEnds, Demand1Called}
 module _ (source image scratch : List ℕ) (r : Answer) (image' : List ℕ) where
   by-text : length image ≡ 16384 → 12288 ≤ length scratch → (x : Result) → compileDef source ≡ x → r ≡ answerOf x → image' ≡ imageAfter x image → CompileEnds source image scratch r image'
   unfolding answerOf imageAfter
-  by-text l s (Result.accepted c) e a i = CompileEnds.accepted l s (c .entry) (c .words) (c .globals) a (ap length i ∙ emission-laws .image-size source c e)
+  by-text l s (Result.accepted c) e a i = CompileEnds.accepted l s (short-enough source c e) (c .entry) (c .words) (c .globals) a (ap length i ∙ emission-laws .image-size source c e)
   by-text l s (Result.failed n at) e a i = CompileEnds.failed l s n at a (numbered source n at e) i
 
   by-lengths : (b d : Bool) → eqb (length image) 16384 ≡ b → leb 12288 (length scratch) ≡ d
@@ -52,9 +53,23 @@ module _ (q : Request) (m : Machine) (k : Clock) (memory memory' : List ℕ) (r 
       let a = c .answer f in
       RunEnds.refused n f (call .reported ∙ ap (reportOf q k) a) (call .left ∙ ap (λ (d : Ran). d .state .image) a)
 
+  not-refused : refused (done .outcome) ≡ false → (n : ℕ) → Refusal q (machine.state m memory) n → ⊥
+  not-refused e n f = by-cause n f (run-laws .refusals q (machine.state m memory) n .answer f)
+    where
+      absurd-at : (n : ℕ) → refused (Outcome.Failed n) ≡ true → runDef q (machine.state m memory) ≡ ran 0 (Outcome.Failed n) (machine.state m memory) → ⊥
+      absurd-at n t a =
+          let f : _≡_ {A = Bool} false true = sym e ∙ ap (λ (d : Ran). refused (d .outcome)) a ∙ t in
+          let z : _≡_ {A = ℕ} 0 1 = cc in
+          omega arith
+
+      by-cause : (n : ℕ) → Refusal q (machine.state m memory) n → runDef q (machine.state m memory) ≡ ran 0 (Outcome.Failed n) (machine.state m memory) → ⊥
+      by-cause n (Refusal.of-image h) a = absurd-at wrongImage refl a
+      by-cause n (Refusal.of-p h l) a = absurd-at wrongP refl a
+      by-cause n (Refusal.of-budget h l) a = absurd-at overBudget refl a
+
   by-refusal : (b : Bool) → refused (done .outcome) ≡ b → (o : Outcome) → done .outcome ≡ o → RunEnds q m k memory r memory'
   by-refusal false e o u =
-      RunEnds.ended (rw (call .reported, call .left) (run-laws .ended q (machine.state m memory) e)) (rw (call .reported) refl)
+      RunEnds.ended (not-refused e) (rw (call .reported, call .left) (run-laws .ended q (machine.state m memory) e)) (rw (call .reported) refl)
   by-refusal true e (Outcome.Failed n) u = refusal n e u
   by-refusal true e Outcome.Halted u =
       let f : _≡_ {A = Bool} false true = sym (ap refused u) ∙ e in

@@ -25,14 +25,14 @@ pub data CompileEnds (source image scratch : List ℕ) (r : Answer) (image' : Li
   -- 3 to 14, at an offset in the text
   failed : length image ≡ 16384 → 12288 ≤ length scratch → (n at : ℕ) → r ≡ Answer.Failed n at → Numbered source n at → image' ≡ image → CompileEnds source image scratch r image'
   -- what an image is and does: specs/Closing
-  accepted : length image ≡ 16384 → 12288 ≤ length scratch → (entry words globals : ℕ) → r ≡ Answer.Accepted entry words globals → length image' ≡ 16384 → CompileEnds source image scratch r image'
+  accepted : length image ≡ 16384 → 12288 ≤ length scratch → length source ≤ 8192 → (entry words globals : ℕ) → r ≡ Answer.Accepted entry words globals → length image' ≡ 16384 → CompileEnds source image scratch r image'
 
 -- of `run`
 pub data RunEnds (q : Request) (m : Machine) (k : Clock) (memory : List ℕ) (r : Report) (memory' : List ℕ) : Type 0 where
   -- 1, 23 or 22, just on its cause: 0 steps, and everything as it was
   refused : (n : ℕ) → Refusal q (machine.state m memory) n → r ≡ endedOf q k 0 (Outcome.Failed n) m → memory' ≡ memory → RunEnds q m k memory r memory'
   -- halted, spent, or 20 or 21 with the state before that step: the steps that it reports were made, and the clock counts them
-  ended : Ended (q .budget) (machine.state m memory) (ran (r .steps) (r .outcome) (machine.state (r .machine) memory')) → r .clock ≡ spendMany q (r .steps) k
+  ended : ((n : ℕ) → Refusal q (machine.state m memory) n → ⊥) → Ended (q .budget) (machine.state m memory) (ran (r .steps) (r .outcome) (machine.state (r .machine) memory')) → r .clock ≡ spendMany q (r .steps) k
       → RunEnds q m k memory r memory'
 
 pub record Demand1Called : Type 0 where

@@ -11,6 +11,7 @@ use declarations::ProgramAnswer;
 use declarations::program::program;
 use declarations::with_end;
 use emitter::held_count;
+use machine::failure::WRONG_IMAGE;
 use symbols::clear;
 
 pub mod demand;
@@ -21,9 +22,7 @@ const SCRATCH_WORDS: usize = 12288;
 
 const SOURCE_BYTES: usize = 8192;
 
-// Failures that are told by a length, at offset 0.
-const WRONG_IMAGE: u16 = 1;
-
+// Failures that are told by a length, at offset 0; a wrong image is the machine's failure too.
 const SHORT_SCRATCH: u16 = 2;
 
 const LONG_SOURCE: u16 = 3;

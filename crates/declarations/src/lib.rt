@@ -24,7 +24,7 @@ pub struct Ends {
     pub count: usize,
 }
 
-// The state between declarations, but for the symbol table: the counts of live names and of globals that take a word, what is emitted, and element 0 of the next array.
+// The state between declarations, but for the symbol table: the counts of live names and of globals that take a word, what is emitted, the closed sectors' code ends, and element 0 of the next array.
 pub struct State {
     pub names: usize,
     pub words: u16,
@@ -33,7 +33,7 @@ pub struct State {
     pub array: u16,
 }
 
-// What an item is declared under: the count of live names, the level's word, how many words its names have taken, and the address of the first.
+// What an item is declared under: the count of live names, its level as the symbol table has it, how many words its names have taken, and the address of the first.
 pub struct Scope {
     pub names: usize,
     pub level: u16,

@@ -24,6 +24,12 @@ use source::token_at;
 use symbols::Found;
 use symbols::Packed;
 
+// The words of sector 0 that globals may take.
+const GLOBALS: u16 = 0o600;
+
+// The names that may be alive, X uncounted.
+const LIVE_NAMES: usize = 512;
+
 // Goes on after a token if a failure's number is 0, else fails with it there.
 pub fn pass_at(t: Token, number: u16) -> Part
     ensures { λ r. ⌜ r ≡ partOf {A = ℕ} (within number t (got 0 (t .next))) ⌝ }
@@ -66,7 +72,7 @@ fn name_failure(source: &[u8], table: &[u16], scope: Scope, limit: u16, at: usiz
     if is_taken(table, scope, symbols::pack(source, t)) {
         return failures::NAME_TAKEN;
     }
-    if 512 <= scope.names {
+    if LIVE_NAMES <= scope.names {
         return failures::TOO_MANY_NAMES;
     }
     limit
@@ -85,9 +91,6 @@ pub fn new_name(source: &[u8], table: &[u16], scope: Scope, limit: u16, at: usiz
         name,
     }
 }
-
-// The words of sector 0 that globals may take.
-const GLOBALS: u16 = 0o600;
 
 // At a declared name that takes a word: 11 where sector 0 has none left.
 pub fn name_limit(scope: Scope) -> u16

@@ -87,7 +87,7 @@ fn body(
     }
 }
 
-// A procedure, after `.PROCEDURE`. Its name is declared again, in the place of the first local, and is known from then on.
+// A procedure, after `.PROCEDURE`. Its name is declared again, over its entry of before, which drops the locals, and is known from then on.
 pub fn procedure(
     source: &[u8],
     table: &mut [u16],

@@ -39,6 +39,11 @@ use source::kind::PROCEDURE;
 use source::token_at;
 use statements::statements;
 
+// The first word of code, and element 0 of the first array.
+const FIRST_CODE: u16 = 0o1000;
+
+const FIRST_ARRAY: u16 = 16383;
+
 // Whether a declaration begins with a token of a kind.
 fn begins(kind: u16) -> bool
     ensures { λ r. ⌜ r ≡ forms.begins kind ⌝ }
@@ -151,11 +156,6 @@ fn main_body(
     store_pool(image, last.code, pool);
     expressions::Answer { part, output: last }
 }
-
-// The first word of code, and element 0 of the first array.
-const FIRST_CODE: u16 = 0o1000;
-
-const FIRST_ARRAY: u16 = 16383;
 
 fn start_state() -> State
     ensures { λ r. ⌜ Starts r ⌝ }

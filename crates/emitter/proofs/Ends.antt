@@ -4,9 +4,9 @@ use mathlib.Core.Path.{_≡_, refl, ap}
 use mathlib.Core.List.{List, [], _∷_}
 use native.Mathlib.Omega.{arith}
 use lib.ListN.{length}
-use Rattle.instruction.specs.Code.{LDA, STA, IRS, CAS, LDX}
+use Rattle.instruction.specs.Code.{STA, IRS, CAS, LDX}
 use Rattle.syntax.specs.Tree.{Id, Operand, Expr, Term, Cond, Stmt, Stmts}
-use Rattle.syntax.specs.Emission.{Sym, _⧺_, cellWords, unariesWords, operationsWords, testSlot, bareSlot, callWord, Control, controls, controlWords, targetCell, exprEnd, termEnd, condEnd, stmtEnd, stmtsEnd, exprWords, termWords, condWords, stmtWords, stmtsWords}
+use Rattle.syntax.specs.Emission.{Sym, _⧺_, cellWords, unariesWords, operationsWords, testSlot, callWord, Control, controls, controlWords, targetCell, exprEnd, termEnd, condEnd, stmtEnd, stmtsEnd, exprWords, termWords, condWords, stmtWords, stmtsWords}
 use Rattle.emitter.proofs.Lays.{append-length}
 
 pub control-length : (end failing : ℕ) (cs : List Control) → length (controlWords end failing cs) ≡ length cs

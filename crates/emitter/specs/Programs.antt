@@ -5,7 +5,7 @@ use lib.ListN.{length, set}
 use Rattle.syntax.specs.Tree.{Name, Item, Stmts, Declaration, Program}
 use Rattle.syntax.specs.Emission.{procedureWords, mainWords}
 use Rattle.syntax.specs.State.{State, start, linkOf, step, stateAfter, finish}
-use Rattle.emitter.specs.Emitted.{Emitted, Bases, emitAll}
+use Rattle.emitter.specs.Emitted.{emitAll}
 
 -- words stored from an address on
 unfoldable pub stored : List ℕ → ℕ → List ℕ → List ℕ

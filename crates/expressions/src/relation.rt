@@ -10,7 +10,7 @@ ghost use mathlib.Core.List.{[], _∷_};
 ghost use Rattle.source.specs.Kinds;
 ghost use Rattle.syntax.specs.Emission.{Sym};
 ghost use Rattle.emitter.specs.Emitted.{emittedBy};
-ghost use Rattle.expressions.specs.Compiles.{Always, AlwaysHoled, Related};
+ghost use Rattle.expressions.specs.Compiles.{AlwaysHoled, Related};
 
 // A jump whose target is filled in later.
 pub fn emit_hole(image: &mut [u16], output: Output) -> Jumping

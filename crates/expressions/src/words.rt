@@ -1,4 +1,4 @@
-// The words that stand for an instruction: unary words, shift words and tests.
+// The words that stand for an instruction: unary words, shift words, tests, operators and relations.
 use instruction::code;
 use instruction::slot;
 use source::kind;

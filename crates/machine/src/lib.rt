@@ -1,6 +1,6 @@
 // The DDP-516 as a word machine: registers by value, the image lent, its word 0 being X. A run makes up to a budget of steps.
 ghost use mathlib.Core.Path.{_≡_};
-ghost use Prim.Native.Nat.{_<_, _≤_};
+ghost use Prim.Native.Nat.{_<_};
 ghost use lib.ListN.{length};
 ghost use Rattle.machine.specs.State.{state};
 ghost use Rattle.machine.specs.Clock.{spendMany, dueOf};
@@ -15,12 +15,12 @@ mod step;
 
 const IMAGE_WORDS: usize = 16384;
 
-const LAST_ADDRESS: u16 = 16383;
+const LAST_P: u16 = 16383;
 
 const LARGEST_BUDGET: u32 = 1000000;
 
-// Half of the clock's turn: a deadline so far behind, or further, is ahead.
-const HALF_TURN: u32 = 2147483648;
+// Half of the clock's range: a deadline that is this far behind, or further, counts as one ahead.
+const HALF_RANGE: u32 = 2147483648;
 
 pub struct Machine {
     pub registers: Registers,
@@ -115,7 +115,7 @@ pub fn run(image: &mut [u16], machine: Machine, clock: Clock, request: Request) 
             clock,
         );
     }
-    if LAST_ADDRESS < machine.p {
+    if LAST_P < machine.p {
         return ended(
             request,
             0,
@@ -140,5 +140,5 @@ pub fn run(image: &mut [u16], machine: Machine, clock: Clock, request: Request) 
 pub fn due(clock: Clock, deadline: u32) -> bool
     ensures { λ r. ⌜ r ≡ dueOf clock deadline ⌝ }
 {
-    std::num::wrapping_sub_u32(clock.common, deadline) < HALF_TURN
+    std::num::wrapping_sub_u32(clock.common, deadline) < HALF_RANGE
 }

@@ -33,7 +33,7 @@ flagsFit words = upTo 1 (2 ∷ 4 ∷ 5 ∷ 6 ∷ 7 ∷ 8 ∷ []) words
 unfoldable pub fitsOf : List ℕ → Bool
 fitsOf words = cond (eqb (length words) 14) (cond (wordsFit words) (flagsFit words) false) false
 
--- of this as facts, what is asked of words that a machine is read from
+-- the part of `fitsOf` that reading a machine asks for: the count, and that A, B and P are words
 pub record Fitting (words : List ℕ) : Type 0 where
   pub count : length words ≡ 14
   pub a : getD words 0 0 ≤ 65535

@@ -1,4 +1,4 @@
-// Document 01's cases that are not starred, by name: the listing of each, what is left in the image and in scratch, and how the image that was laid runs.
+// Document 01's cases that are not starred, by name: the listing of each, what is left in the image and in scratch, and how the image of an accepted one runs.
 use case_input::parse_number;
 use case_input::part_end;
 use compiler::Answer;
@@ -110,7 +110,7 @@ fn lend(source: &[u8], image_size: u32, scratch_size: u32) -> bool {
     false
 }
 
-// Compiled once more, and run.
+// Compiled once more, onto zeros, and run.
 fn run_source(source: &[u8]) {
     let mut image = [0u16; 16384];
     let mut scratch = [0u16; 12288];

@@ -130,7 +130,8 @@ pub data Fills (c : Compiled) (k word : ℕ) : Type 0 where
   given : (i : CellId) (v : ℕ) → List·Memᴰ i (variablesOf (c .program)) → getD (mapOf (c .program)) k Word.free ≡ Word.cell i v → Fills c k word
 
 pub record Loads (c : Compiled) : Type 0 where
-  -- a machine set at the entry, its memory the image with any values for the variables: it is loaded with a start. The image as it is fills itself
+  pub whole : length (c .image) ≡ 16384
+  -- a machine set at the entry, whose memory is the image but for any values of the variables, is loaded with some start; by `whole` the image itself is such a memory
   pub filled : (m : Machine) (memory : List ℕ) → length memory ≡ 16384 → ((k : ℕ) → k < 16384 → Fills c k (getD memory k 0)) → m .p ≡ c .entry → m .halted ≡ false
       → (σ : State) × Loaded c σ (machine.state m memory)
   -- and every start has a machine that is loaded with it

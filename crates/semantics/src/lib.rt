@@ -6,7 +6,7 @@ pub fn demand_three()
     ensures { λ r. ⌜ Demand3 ⌝ }
 {}
 
-// The theorem is about something: a machine can be loaded with every start.
+// The theorem is about something: every memory that has the image's words but where variables stand is loaded with a start, and every start has such a memory.
 pub fn start_exists()
     ensures { λ r. ⌜ Loadable ⌝ }
 {}

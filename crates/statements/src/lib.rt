@@ -62,7 +62,7 @@ fn ends_statement(t: Token) -> bool
     }
 }
 
-// `.IF` condition `.THEN` statement `.ELSE` statement. `left` is the level of the statement that this is, `inner` of those in it.
+// `.IF` condition `.THEN` statement `.ELSE` statement. `left` is how many levels are left for this statement, its own among them; `inner` for those in it.
 fn if_statement(
     source: &[u8],
     table: &[u16],

@@ -10,9 +10,9 @@ use source::Token;
 use source::byte::name_byte;
 
 // Words of an entry: the packed name, the level, and a code, a number and a value that give the kind.
-pub const ENTRY: usize = 7;
+const ENTRY: usize = 7;
 
-// The codes of the kinds; any other is a name that nothing is known of.
+// The codes of the kinds; UNKNOWN and any other are a name that nothing is known of.
 const INTEGER: u16 = 1;
 
 const CONSTANT: u16 = 2;
@@ -23,7 +23,7 @@ const ARRAY: u16 = 4;
 
 const PROCEDURE: u16 = 5;
 
-const ACCUMULATOR_PROCEDURE: u16 = 6;
+const FUNCTION: u16 = 6;
 
 const UNKNOWN: u16 = 0;
 
@@ -124,7 +124,7 @@ fn kind_of(code: u16, number: u16, value: u16) -> Kind
             number,
             accumulator: false,
         }
-    } else if code == ACCUMULATOR_PROCEDURE {
+    } else if code == FUNCTION {
         Kind::Procedure {
             number,
             accumulator: true,
@@ -163,11 +163,7 @@ fn data_of(kind: Kind) -> Data
             number,
             accumulator,
         } => Data {
-            code: if accumulator {
-                ACCUMULATOR_PROCEDURE
-            } else {
-                PROCEDURE
-            },
+            code: if accumulator { FUNCTION } else { PROCEDURE },
             number,
             value: 0,
         },

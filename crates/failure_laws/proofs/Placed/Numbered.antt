@@ -12,7 +12,7 @@ use Rattle.syntax.specs.Tree.{Program}
 use Rattle.syntax.specs.Parse.{Got}
 use Rattle.syntax.specs.Parse.Got.{got, failed}
 use Rattle.syntax.specs.Program.{parseProgram}
-use Rattle.emission.specs.Compile.{Result, resultOf, compileDef}
+use Rattle.emission.specs.Compile.{Compiled, Result, resultOf, compileDef}
 use Rattle.failure_laws.specs.Numbered.{Numbered, FailuresNumbered}
 use Rattle.failure_laws.proofs.Placed.Parts.{Failure, Fine, bad}
 use Rattle.failure_laws.proofs.Placed.Declarations.{read, reads}
@@ -55,3 +55,14 @@ by-length source n at false l e =
 pub numbered : FailuresNumbered
 unfolding compileDef parseProgram
 numbered source n at e = by-length source n at (leb (length source) 8192) refl e
+
+-- a text that compiles is no longer than 8,192 bytes
+accepted-by : (source : List ℕ) (c : Compiled) (b : Bool) → leb (length source) 8192 ≡ b
+    → resultOf (whether b (λ _. read source) (λ _. failed 3 0)) ≡ Result.accepted c → length source ≤ 8192
+unfolding resultOf
+accepted-by source c true l e = leb-true (length source) 8192 l
+accepted-by source c false l e = let z : _≡_ {A = ℕ} 0 1 = cc in absurd (omega arith)
+
+pub short-enough : (source : List ℕ) (c : Compiled) → compileDef source ≡ Result.accepted c → length source ≤ 8192
+unfolding compileDef parseProgram
+short-enough source c e = accepted-by source c (leb (length source) 8192) refl e

@@ -3,25 +3,17 @@ use Prim.Native.Nat.{ℕ}
 use mathlib.Core.Logic.{_⊎_, inl, inr}
 use mathlib.Core.List.{[]}
 use native.Mathlib.Omega.{arith}
-use mathlib.Core.Path.{_≡_, ap, _∙_}
-use lib.ListN.{length, length-map}
 use Rattle.syntax.specs.Pool.{literalsOf}
-use Rattle.emission.specs.Map.{initial, mapOf, imageOf}
-use Rattle.emission.specs.Compile.{Compiled}
 use Rattle.semantics.specs.EmissionLaws.{EmissionLaws, Among}
 use Rattle.semantics.proofs.Acceptance.Pools.{at-index, added-all-end, index-stays, all-among, all-from, distinct-all}
 use Rattle.semantics.proofs.Acceptance.Sectors.{in-sector, in-last-sector}
-use Rattle.semantics.proofs.Acceptance.Accepted.{Accepted, accepted}
-use Rattle.semantics.proofs.MemoryMap.Here.{map-length}
-use Rattle.semantics.proofs.Demand.Theorem.{placed, laid-at, image-at}
+use Rattle.semantics.proofs.Acceptance.Accepted.{accepted}
+use Rattle.semantics.proofs.Demand.Theorem.{placed, laid-at}
+use Rattle.semantics.proofs.Demand.Loading.{image-size}
 
 from-none : {A : Type 0} (v : ℕ) → Among [] v ⊎ A → A
 from-none v (inl l) = absurd (omega arith)
 from-none v (inr a) = a
-
-size : (c : Compiled) → Accepted c → length (c .image) ≡ 16384
-unfolding imageOf
-size c a = ap length (image-at c a) ∙ length-map (mapOf (c .program)) initial ∙ map-length (c .program) (a .well-formed)
 
 pub emission-laws : EmissionLaws
 emission-laws = record {
@@ -34,7 +26,7 @@ emission-laws = record {
   stays = λ pool vs v l. index-stays v (added-all-end pool vs) l;
   well-formed = λ source c e. accepted source c e .well-formed;
   by-tree = λ source c e. accepted source c e .is;
-  image-size = λ source c e. size c (accepted source c e);
+  image-size = λ source c e. image-size c (accepted source c e);
   homes = λ source c e. placed (c .program) (accepted source c e .well-formed) .homes;
   sound = λ source c e. placed (c .program) (accepted source c e .well-formed) .sound;
   laid = λ source c e. laid-at c (accepted source c e);

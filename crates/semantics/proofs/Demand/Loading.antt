@@ -19,6 +19,7 @@ use Rattle.semantics.proofs.MemoryMap.Apart.{apart}
 use Rattle.semantics.proofs.MemoryMap.Placement.{constant-home}
 use Rattle.semantics.proofs.Simulation.Cells.{same-cell, self-cell}
 use Rattle.semantics.proofs.Acceptance.Accepted.{Accepted, accepted}
+use Rattle.semantics.proofs.Demand.Theorem.{image-at}
 
 -- a word as the start has it
 valueIn : State → Word → ℕ
@@ -40,6 +41,10 @@ loadedWith c σ = machine.state (record { registers = σ .registers; p = c .entr
 image-is : (p : Program) (k : ℕ) → getD (compiled p .image) k 0 ≡ initial (getD (mapOf p) k Word.free)
 unfolding compiled imageOf
 image-is p k = List·getD-map initial (mapOf p) k Word.free
+
+pub image-size : (c : Compiled) → Accepted c → length (c .image) ≡ 16384
+unfolding imageOf
+image-size c a = ap length (image-at c a) ∙ length-map (mapOf (c .program)) initial ∙ map-length (c .program) (a .well-formed)
 
 loaded : (c : Compiled) → Accepted c → (σ : State) → Start (c .program) σ → Loaded c σ (loadedWith c σ)
 unfolding loadedWith valueIn
@@ -147,6 +152,7 @@ unfolding Loadable
 loadable source c e =
     let a = accepted source c e in
     record {
+      whole = image-size c a;
       filled = λ m memory size fills entry running. (startOf c a m memory fills, filled c a m memory fills size entry running);
       started = λ σ start. (loadedWith c σ, loaded c a σ start);
     }

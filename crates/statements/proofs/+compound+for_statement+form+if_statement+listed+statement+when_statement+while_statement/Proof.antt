@@ -15,7 +15,7 @@ use Rattle.emitter.proofs.Lays.{nothing}
 use Rattle.expressions.specs.Compiles.{Compiles}
 use Rattle.statements.specs.Forms.{loopOf, stmtAt}
 use Rattle.cells.proofs.Laws.{then-got, then-failed, got-read, got-failed}
-use Rattle.statements.proofs.Laws.{Reads, compiled, tested, came, pass, follow, within-form, put-as}
+use Rattle.statements.proofs.Laws.{compiled, tested, came, pass, follow, within-form, put-as}
 use Rattle.statements.proofs.Assigns.{stored-as, to-a, to-x, called}
 use Rattle.statements.proofs.Branches.{when-as, while-as, if-as, if-stops, if-on, when-lays, while-lays, over, if-lays}
 use Rattle.statements.proofs.Loops.{headed, for-as, for-lays}
