@@ -9,7 +9,7 @@ use Rattle.syntax.specs.Tree.{Id, Name, Item, Stmts, Declaration, Program}
 use Rattle.syntax.specs.Emission.{procedureWords}
 use Rattle.syntax.specs.State.{State, sectorOf, linkOf, step}
 use Rattle.emission.specs.Map.{Word, initial, frame, fixedWords, placed, itemWords, localItems, elements, placeDeclaration, planOf}
-use Rattle.semantics.specs.WellFormed.{Kind, kindsOf}
+use Rattle.parsing_laws.specs.WellFormed.{Kind, kindsOf}
 use Rattle.semantics.specs.EmissionLaws.{Extends}
 use Rattle.semantics.proofs.MemoryMap.Front.{array-fits, next-follows}
 use Rattle.semantics.proofs.MemoryMap.Items.{item-length, elements-length, local-length, procedure-length}

@@ -6,15 +6,11 @@ use native.Mathlib.Omega.{arith}
 use lib.ListN.{length, set, replicate, length-map, length-replicate}
 use Rattle.syntax.specs.Tree.{Id, CellId, Declaration, Program}
 use Rattle.syntax.specs.Emission.{mainWords}
-use Rattle.syntax.specs.Parse.{Got}
-use Rattle.syntax.specs.Parse.Got.{got, failed}
-use Rattle.syntax.specs.Program.{parseProgram}
 use Rattle.syntax.specs.State.{State, start, step, stateAfter, finish}
 use Rattle.emission.specs.Map.{Word, initial, frame, fixedWords, placeAll, planOf, mapOf, imageOf}
-use Rattle.semantics.specs.WellFormed.{Kind, kindsOf, WellFormed}
+use Rattle.parsing_laws.specs.WellFormed.{Kind, kindsOf, WellFormed}
 use Rattle.semantics.specs.EmissionLaws.{Extends}
-use Rattle.semantics.proofs.Acceptance.Parts.{Ok, ok}
-use Rattle.semantics.proofs.Acceptance.Declarations.{programs}
+use Rattle.parsing_laws.proofs.Parsed.Programs.{well-formed}
 use Rattle.semantics.proofs.Acceptance.Pools.{same}
 use Rattle.semantics.proofs.MemoryMap.Items.{fixed-length}
 use Rattle.semantics.proofs.MemoryMap.Here.{Here, placing, next, last-pool, tail, tail-length, empty, begin}
@@ -83,10 +79,6 @@ module _ (p : Program) where
   unfolding emitProgram imageOf stateAfter
   program-emitted w = ap (emitProgram ends p) (sym start-image) ∙ all-emitted (p .declarations) start [] (empty p) (begin p w)
 
-well-formed : (g : Got Program) → Ok WellFormed g → (p : Program) (n : ℕ) → g ≡ got p n → WellFormed p
-well-formed (got q m) (ok w) p n e = let d : q ≡ p = cc in subst WellFormed d w
-well-formed (failed m at) h p n e = let z : _≡_ {A = ℕ} 0 1 = cc in absurd (omega arith)
-
 pub emitted-image : EmittedImage
 unfolding EmittedImage
-emitted-image source p n e = program-emitted p (well-formed (parseProgram source) (programs source) p n e)
+emitted-image source p n e = program-emitted p (well-formed source p n e)

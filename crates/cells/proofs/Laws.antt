@@ -12,9 +12,18 @@ use Rattle.syntax.specs.Parse.{Got, andThen, failAt, is}
 use Rattle.syntax.specs.Symbols.{Names}
 use Rattle.syntax.specs.Cells.{refuse, parseConstant, parseInRange}
 use Rattle.cells.specs.declared.Part.{Part}
-use Rattle.cells.specs.Answers.{partOf, gotWith}
+use Rattle.cells.specs.Answers.{partOf, gotWith, answerOf}
 
--- ---- What a read or a failed part says of the result
+-- ---- What an answer says of the result
+
+answered : {A : Type 0} (none : A) (g : Got A) → gotWith (answerOf none g .0) (answerOf none g .1) ≡ g
+unfolding gotWith answerOf
+answered none (Got.got t n) = refl
+answered none (Got.failed k at) = refl
+
+-- THE LAW OF ANSWERS: the part and the value are the result
+pub got-with : {A : Type 0} {t : A} {p : Part} (none : A) {g : Got A} → (p, t) ≡ answerOf none g → gotWith p t ≡ g
+got-with none {g} e = ap (λ x. gotWith (x .0) (x .1)) e ∙ answered none g
 
 module _ {A : Type 0} {p : Part} where
   pub got-read : {t : A} {g : Got A} {n : ℕ} → gotWith p t ≡ g → p ≡ Part.Read n → g ≡ Got.got t n
@@ -52,59 +61,44 @@ module _ {A B : Type 0} {g : Got A} (f : A → ℕ → Got B) where
   unfolding andThen
   then-failed e = ap (λ x. andThen x f) e
 
--- a failure is passed upward, whatever value goes with it
-pub pass : {A B : Type 0} {p : Part} (t : A) (u : B) {g : Got A} (f : A → ℕ → Got B) {k at : ℕ} → gotWith p t ≡ g → p ≡ Part.Failed k at → gotWith p u ≡ andThen g f
-unfolding gotWith
-pass t u f e q = ap (λ x. gotWith x u) q ∙ sym (then-failed f (got-failed t e q))
+-- an answer that failed holds the fixed value, so it serves for what follows it
+pub pass-answer : {A : Type 0} {t : A} {p : Part} (none : A) (g : Got A) (f : A → ℕ → Got A) {k at : ℕ} → (p, t) ≡ answerOf none g → p ≡ Part.Failed k at → (p, t) ≡ answerOf none (andThen g f)
+unfolding answerOf andThen
+pass-answer none (Got.got u n) f e q = let z : _≡_ {A = ℕ} 0 1 = cc (ap (λ x. x .0) e) in absurd (omega arith)
+pass-answer none (Got.failed k at) f e q = e
 
-pub pass-part : {A B : Type 0} {p : Part} (u : B) (g : Got A) (f : A → ℕ → Got B) {k at : ℕ} → p ≡ partOf g → p ≡ Part.Failed k at → gotWith p u ≡ andThen g f
-unfolding gotWith
-pass-part u g f e q = ap (λ x. gotWith x u) q ∙ sym (then-failed f (part-failed g e q))
+-- ---- Answers to a result that is known
 
-pub pass-on : {A B : Type 0} {p : Part} (t : A) {g : Got A} (f : A → ℕ → Got B) {k at : ℕ} → gotWith p t ≡ g → p ≡ Part.Failed k at → p ≡ partOf (andThen g f)
-unfolding partOf
-pass-on t f e q = q ∙ sym (ap partOf (then-failed f (got-failed t e q)))
+module _ {A : Type 0} (none : A) {p : Part} {g : Got A} where
+  pub read-answer : {t : A} {n : ℕ} → g ≡ Got.got t n → p ≡ Part.Read n → (p, t) ≡ answerOf none g
+  unfolding answerOf
+  read-answer e q = rw (e, q)
 
--- what was read is made into something else, or only has to end there
-pub then-with : {A B : Type 0} (p : Part) (t : A) {g : Got A} (f : A → B) → gotWith p t ≡ g → gotWith p (f t) ≡ andThen g (λ x next. Got.got (f x) next)
-unfolding gotWith andThen
-then-with (Part.Read n) t f e = ap (λ x. andThen x (λ y next. Got.got (f y) next)) e
-then-with (Part.Failed k at) t f e = ap (λ x. andThen x (λ y next. Got.got (f y) next)) e
-
-pub then-part : {A B : Type 0} {p : Part} (u : B) (g : Got A) → p ≡ partOf g → gotWith p u ≡ andThen g (λ _ next. Got.got u next)
-unfolding gotWith partOf andThen
-then-part u (Got.got t n) e = ap (λ x. gotWith x u) e
-then-part u (Got.failed k at) e = ap (λ x. gotWith x u) e
+  pub failed-answer : {k at : ℕ} → g ≡ Got.failed k at → p ≡ Part.Failed k at → (p, none) ≡ answerOf none g
+  unfolding answerOf
+  failed-answer e q = rw (e, q)
 
 -- ---- Failures at a token
 
-pub failed-part : (A : Type 0) (t : Token) (n : ℕ) → Part.Failed (failureAt t n) (t .at) ≡ partOf {A = A} (failAt t n)
-unfolding failAt partOf
-failed-part A t n = refl
-
-pub failed-with : {A : Type 0} (t : Token) (n : ℕ) (u : A) → gotWith (Part.Failed (failureAt t n) (t .at)) u ≡ failAt t n
-unfolding failAt gotWith
-failed-with t n u = refl
-
-pub refused-with : {A : Type 0} {p : Part} (t : Token) (u : A) → p ≡ partOf {A = ℕ} (refuse t) → gotWith p u ≡ refuse t
-unfolding refuse failAt partOf gotWith
-refused-with {A} t u e = ap (λ x. gotWith x u) e ∙ go (is Kinds.name t)
+pub refused-with : {A : Type 0} (none : A) {p : Part} (t : Token) → p ≡ partOf {A = ℕ} (refuse t) → (p, none) ≡ answerOf none (refuse t)
+unfolding refuse failAt partOf answerOf
+refused-with none t e = ap (λ x. (x, none)) e ∙ go (is Kinds.name t)
   where
-    go : (b : Bool) → gotWith (partOf {A = ℕ} (whether b (λ _. failAt t 7) (λ _. failAt t 6))) u ≡ whether b (λ _. failAt {A = A} t 7) (λ _. failAt t 6)
+    go : (b : Bool) → (partOf {A = ℕ} (whether b (λ _. failAt t 7) (λ _. failAt t 6)), none) ≡ answerOf none (whether b (λ _. failAt t 7) (λ _. failAt t 6))
     go true = refl
     go false = refl
 
 -- ---- A constant in a range
 
-module _ (source : List ℕ) (names : Names) (inRange : ℕ → Bool) (at : ℕ) {p : Part} (v : ℕ) (e : gotWith p v ≡ parseConstant source names at) where
-  pub range-failed : {k a : ℕ} → p ≡ Part.Failed k a → gotWith p v ≡ parseInRange source names inRange at
+module _ (source : List ℕ) (names : Names) (inRange : ℕ → Bool) (at : ℕ) {p : Part} (v : ℕ) (e : (p, v) ≡ answerOf 0 (parseConstant source names at)) where
+  pub range-failed : {k a : ℕ} → p ≡ Part.Failed k a → (p, v) ≡ answerOf 0 (parseInRange source names inRange at)
   unfolding parseInRange
-  range-failed q = pass v v _ e q
+  range-failed q = pass-answer 0 _ _ e q
 
-  pub range-in : {n : ℕ} → p ≡ Part.Read n → inRange v ≡ true → gotWith p v ≡ parseInRange source names inRange at
-  unfolding parseInRange gotWith andThen
-  range-in q h = rw (got-read e q, q, h)
+  pub range-in : {n : ℕ} → p ≡ Part.Read n → inRange v ≡ true → (p, v) ≡ answerOf 0 (parseInRange source names inRange at)
+  unfolding parseInRange
+  range-in q h = read-answer 0 (then-got _ (got-read (got-with 0 e) q) ∙ rw h) q
 
-  pub range-out : {n : ℕ} → p ≡ Part.Read n → inRange v ≡ false → (u : ℕ) → gotWith (Part.Failed (failureAt (tokenAt source at) 5) (tokenAt source at .at)) u ≡ parseInRange source names inRange at
-  unfolding parseInRange gotWith andThen failAt
-  range-out q h u = rw (got-read e q, h)
+  pub range-out : {n : ℕ} → p ≡ Part.Read n → inRange v ≡ false → (Part.Failed (failureAt (tokenAt source at) 5) (tokenAt source at .at), 0) ≡ answerOf 0 (parseInRange source names inRange at)
+  unfolding parseInRange failAt
+  range-out q h = failed-answer 0 (then-got _ (got-read (got-with 0 e) q) ∙ rw h) refl

@@ -1,126 +1,93 @@
 -- What a symbol decides of a definition. Assumes nothing.
 use Prim.Native.Nat.{ℕ}
-use mathlib.Core.Path.{_≡_, refl, sym, ap, _∙_}
+use mathlib.Core.Path.{_≡_, refl, sym, ap}
 use mathlib.Core.Bool.{Bool, true, false}
 use mathlib.Core.List.{List, [], _∷_}
 use mathlib.Core.Option.{Option, none, some}
+use native.Mathlib.Omega.{arith}
 use borrow.Author.Tests.{eqb-true}
 use types.Run.{OneOf, miss}
 use denote.Enum.Declared.{tagOf}
 use Rattle.source.specs.Bytes.{whether, given}
 use Rattle.source.specs.Kinds
 use Rattle.source.specs.declared.Token.{Token}
-use Rattle.source.specs.Tokens.{tokenAt, nameOf}
+use Rattle.source.specs.Tokens.{nameOf}
 use Rattle.syntax.specs.Tree as tree
 use Rattle.syntax.specs.Parse.{Got, andThen, is}
 use Rattle.syntax.specs.Symbols as symbols
 use Rattle.syntax.specs.Symbols.{Names, symbolOf, asConstant, asInteger, asOperand, asArray, asProcedure, asFunction}
-use Rattle.syntax.specs.Cells.{refuse, nameAs, constantOf, parseConstant, operandOf, cellStart}
+use Rattle.syntax.specs.Cells.{refuse, nameAs, constantOf, operandOf, cellStart}
 use Rattle.syntax.specs.Expressions.{TermStart}
 use Rattle.syntax.specs.Statements.{StmtStart, stmtStart}
-use Rattle.symbols.specs.Packing.{packOf, unpack}
-use Rattle.symbols.proofs.Tokens.{name-unpacked}
-use Rattle.cells.specs.declared.Symbol.{Symbol}
-use Rattle.cells.specs.Answers.{symbolAt, treeSymbol}
-use Rattle.cells.specs.Starts.{symbolBy, meaningBy, operandBy, cellBy, termBy, opening}
-use Rattle.cells.proofs.Symbol.{the-type}
+use Rattle.symbols.specs.declared.Symbol.{Symbol}
+use Rattle.symbols.specs.Trees.{treeSymbol}
+use Rattle.symbols.proofs.Symbol.{the-type}
+use Rattle.cells.specs.Answers.{symbolAt}
+use Rattle.cells.specs.Starts.{operandBy, cellBy, termBy, opening}
 
--- no definition asks for a name that is unknown, so that each asks for the symbol at a token
-pub name-as : {A : Type 0} (kind : symbols.Symbol → Option A) → kind symbols.Symbol.unknown ≡ none → (source : List ℕ) (names : Names) (t : Token) → nameAs source names kind t ≡ kind (symbolAt source names t)
-unfolding nameAs symbolAt
-name-as kind e source names t = go (is Kinds.name t)
-  where
-    go : (b : Bool) → whether b (λ _. kind (symbolOf names (nameOf source t))) (λ _. none) ≡ kind (whether b (λ _. symbolOf names (nameOf source t)) (λ _. symbols.Symbol.unknown))
-    go true = refl
-    go false = sym e
-
-module _ (source : List ℕ) (names : Names) (at : ℕ) where
-  abbrev here : Token
-  here = tokenAt source at
-
-  -- a name's packed words stand for the name
-  pub symbol-packed : symbolBy source names here ≡ symbolAt source names here
-  unfolding symbolBy symbolAt
-  symbol-packed = go (is Kinds.name here) refl
+module _ {A : Type 0} (kind : symbols.Symbol → Option A) (u : kind symbols.Symbol.unknown ≡ none) where
+  -- no definition asks for a name that is unknown, or that a numeral may stand for: each asks for the symbol at a token
+  pub name-as : ((v : ℕ) → kind (symbols.Symbol.compconstant v) ≡ none) → (source : List ℕ) (names : Names) (t : Token) → nameAs source names kind t ≡ kind (symbolAt source names t)
+  unfolding nameAs symbolAt
+  name-as n source names t = go (is Kinds.numeral t) (is Kinds.name t) (λ h. rw (eqb-true (t .kind) Kinds.numeral h))
     where
-      go : (b : Bool) → is Kinds.name here ≡ b
-          → whether b (λ _. symbolOf names (unpack (packOf (nameOf source here)))) (λ _. symbols.Symbol.unknown) ≡ whether b (λ _. symbolOf names (nameOf source here)) (λ _. symbols.Symbol.unknown)
-      go true h = ap (symbolOf names) (name-unpacked source at h)
-      go false h = refl
+      go : (b c : Bool) → (b ≡ true → c ≡ false)
+          → whether c (λ _. kind (symbolOf names (nameOf source t))) (λ _. none)
+          ≡ kind (whether b (λ _. symbols.Symbol.compconstant (t .value)) (λ _. whether c (λ _. symbolOf names (nameOf source t)) (λ _. symbols.Symbol.unknown)))
+      go true true h = let z : _≡_ {A = ℕ} 0 1 = cc (h refl) in absurd (omega arith)
+      go true false h = sym (n (t .value))
+      go false true h = refl
+      go false false h = sym u
 
-  numeral-unknown : is Kinds.numeral here ≡ true → symbolBy source names here ≡ symbols.Symbol.unknown
-  unfolding symbolBy
-  numeral-unknown h = rw (eqb-true (here .kind) Kinds.numeral h)
+  -- a numeral, or a name that may stand for what a numeral does
+  by-value : (value : ℕ → A) → ((v : ℕ) → kind (symbols.Symbol.compconstant v) ≡ some (value v)) → (source : List ℕ) (names : Names) (t : Token)
+      → whether (is Kinds.numeral t) (λ _. Got.got (value (t .value)) (t .next)) (λ _. given (nameAs source names kind t) (λ a. Got.got a (t .next)) (λ _. refuse t))
+      ≡ given (kind (symbolAt source names t)) (λ a. Got.got a (t .next)) (λ _. refuse t)
+  unfolding nameAs symbolAt
+  by-value value n source names t = go (is Kinds.numeral t) (is Kinds.name t)
+    where
+      use-of : Option A → Got A
+      use-of o = given o (λ a. Got.got a (t .next)) (λ _. refuse t)
 
-  module _ {A : Type 0} (kind : symbols.Symbol → Option A) (u : kind symbols.Symbol.unknown ≡ none) where
-    by-symbol : nameAs source names kind here ≡ kind (symbolBy source names here)
-    by-symbol = name-as kind u source names here ∙ ap kind (sym symbol-packed)
+      go : (b c : Bool) → whether b (λ _. Got.got (value (t .value)) (t .next)) (λ _. use-of (whether c (λ _. kind (symbolOf names (nameOf source t))) (λ _. none)))
+          ≡ use-of (kind (whether b (λ _. symbols.Symbol.compconstant (t .value)) (λ _. whether c (λ _. symbolOf names (nameOf source t)) (λ _. symbols.Symbol.unknown))))
+      go true c = ap use-of (sym (n (t .value)))
+      go false true = refl
+      go false false = ap use-of (sym u)
 
-    -- a name that no numeral may stand for
-    by-meaning : ((v : ℕ) → kind (symbols.Symbol.compconstant v) ≡ none) → nameAs source names kind here ≡ kind (meaningBy source names here)
-    unfolding meaningBy
-    by-meaning n = by-symbol ∙ go (is Kinds.numeral here) refl
-      where
-        go : (b : Bool) → is Kinds.numeral here ≡ b → kind (symbolBy source names here) ≡ kind (whether b (λ _. symbols.Symbol.compconstant (here .value)) (λ _. symbolBy source names here))
-        go true h = ap kind (numeral-unknown h) ∙ u ∙ sym (n (here .value))
-        go false h = refl
+module _ (source : List ℕ) (names : Names) (t : Token) where
+  pub constant-is : constantOf source names t ≡ given (asConstant (symbolAt source names t)) (λ v. Got.got v (t .next)) (λ _. refuse t)
+  unfolding constantOf asConstant
+  constant-is = by-value asConstant refl (λ v. v) (λ v. refl) source names t
 
-    -- a numeral, or a name that may stand for what a numeral does
-    by-value : (value : ℕ → A) → ((v : ℕ) → kind (symbols.Symbol.compconstant v) ≡ some (value v))
-        → whether (is Kinds.numeral here) (λ _. Got.got (value (here .value)) (here .next)) (λ _. given (nameAs source names kind here) (λ a. Got.got a (here .next)) (λ _. refuse here))
-        ≡ given (kind (meaningBy source names here)) (λ a. Got.got a (here .next)) (λ _. refuse here)
-    unfolding meaningBy
-    by-value value n = go (is Kinds.numeral here)
-      where
-        go : (b : Bool) → whether b (λ _. Got.got (value (here .value)) (here .next)) (λ _. given (nameAs source names kind here) (λ a. Got.got a (here .next)) (λ _. refuse here))
-            ≡ given (kind (whether b (λ _. symbols.Symbol.compconstant (here .value)) (λ _. symbolBy source names here))) (λ a. Got.got a (here .next)) (λ _. refuse here)
-        go true = ap (λ x. given x (λ a. Got.got a (here .next)) (λ _. refuse here)) (sym (n (here .value)))
-        go false = ap (λ x. given x (λ a. Got.got a (here .next)) (λ _. refuse here)) by-symbol
-
-  constant-here : parseConstant source names at ≡ given (asConstant (meaningBy source names here)) (λ v. Got.got v (here .next)) (λ _. refuse here)
-  unfolding parseConstant constantOf asConstant
-  constant-here = by-value asConstant refl (λ v. v) (λ v. refl)
-
-  operand-here : operandOf source names here ≡ operandBy (meaningBy source names here) here
+  pub operand-is : operandOf source names t ≡ operandBy (symbolAt source names t) t
   unfolding operandOf operandBy asOperand
-  operand-here = by-value asOperand refl tree.Operand.literal (λ v. refl)
+  operand-is = by-value asOperand refl tree.Operand.literal (λ v. refl) source names t
 
-  cell-here : cellStart source names here ≡ cellBy (meaningBy source names here) here
+  pub cell-is : cellStart source names t ≡ cellBy (symbolAt source names t) t
   unfolding cellStart cellBy asArray
-  cell-here = rw (by-meaning asArray refl (λ v. refl), operand-here)
+  cell-is = rw (name-as asArray refl (λ v. refl) source names t, operand-is)
 
-  -- ---- By the symbol that the code found
+  -- the end of `termStart`
+  pub term-is :
+      given (nameAs source names asFunction t) (λ p. Got.got (TermStart.call p) (t .next)) (λ _. andThen (cellStart source names t) (λ c next. Got.got (TermStart.cell c) next))
+      ≡ termBy (symbolAt source names t) t
+  unfolding termBy asFunction
+  term-is = rw (name-as asFunction refl (λ v. refl) source names t, cell-is)
 
-  module _ {t : Token} (e : t ≡ here) (s : Symbol) where
-    pub symbol-by : treeSymbol s ≡ symbolBy source names t → treeSymbol s ≡ symbolAt source names here
-    symbol-by h = h ∙ ap (symbolBy source names) e ∙ symbol-packed
-
-    module _ (h : treeSymbol s ≡ meaningBy source names t) where
-      pub constant-by : parseConstant source names at ≡ given (asConstant (treeSymbol s)) (λ v. Got.got v (t .next)) (λ _. refuse t)
-      constant-by = rw (h, e) constant-here
-
-      pub operand-by : operandOf source names here ≡ operandBy (treeSymbol s) t
-      operand-by = rw (h, e) operand-here
-
-      pub cell-by : cellStart source names here ≡ cellBy (treeSymbol s) t
-      cell-by = rw (h, e) cell-here
-
-      -- the end of `termStart`
-      pub term-by :
-          given (nameAs source names asFunction here) (λ p. Got.got (TermStart.call p) (here .next)) (λ _. andThen (cellStart source names here) (λ c next. Got.got (TermStart.cell c) next))
-          ≡ termBy (treeSymbol s) t
-      unfolding termBy asFunction
-      term-by = rw (h, e, by-meaning asFunction refl (λ v. refl), cell-here)
-
-    pub statement-by :
-        treeSymbol s ≡ symbolBy source names t
-        → stmtStart source names here
-        ≡ given (asInteger (treeSymbol s)) (λ i. Got.got (StmtStart.integer i) (t .next)) (λ _.
-        given (asArray (treeSymbol s)) (λ a. Got.got (StmtStart.element a) (t .next)) λ _.
-        given (asProcedure (treeSymbol s)) (λ p. Got.got (StmtStart.call p) (t .next)) λ _.
-        opening t)
-    unfolding stmtStart asInteger asArray asProcedure opening
-    statement-by h = rw (h, e, by-symbol asInteger refl, by-symbol asArray refl, by-symbol asProcedure refl)
+  pub statement-is :
+      stmtStart source names t
+      ≡ given (asInteger (symbolAt source names t)) (λ i. Got.got (StmtStart.integer i) (t .next)) (λ _.
+      given (asArray (symbolAt source names t)) (λ a. Got.got (StmtStart.element a) (t .next)) λ _.
+      given (asProcedure (symbolAt source names t)) (λ p. Got.got (StmtStart.call p) (t .next)) λ _.
+      opening t)
+  unfolding stmtStart asInteger asArray asProcedure opening
+  statement-is =
+      rw (
+        name-as asInteger refl (λ v. refl) source names t,
+        name-as asArray refl (λ v. refl) source names t,
+        name-as asProcedure refl (λ v. refl) source names t,
+      )
 
 -- ---- Symbols of the last arm of a match: by the variants that are left
 
@@ -164,16 +131,12 @@ no-function (Symbol.Procedure p accumulator) h = absurd (miss (0 ∷ 1 ∷ 2 ∷
 no-function Symbol.Unknown h = refl
 
 -- no name that a statement begins with
-pub record NoStart (s : symbols.Symbol) : Type 0 where
-  pub integer : asInteger s ≡ none
-  pub array : asArray s ≡ none
-  pub procedure : asProcedure s ≡ none
-
-pub no-start : (s : Symbol) → Left (1 ∷ 2 ∷ 5 ∷ []) s → NoStart (treeSymbol s)
+pub no-start : (s : Symbol) → Left (1 ∷ 2 ∷ 5 ∷ []) s → {A : Type 0} (f : tree.Id → A) (g : tree.Array → A) (h : ℕ → A) (k : A)
+    → given (asInteger (treeSymbol s)) f (λ _. given (asArray (treeSymbol s)) g (λ _. given (asProcedure (treeSymbol s)) h (λ _. k))) ≡ k
 unfolding asInteger asArray asProcedure treeSymbol
-no-start (Symbol.Integer i) h = absurd (miss (1 ∷ 2 ∷ 5 ∷ []) 0 tt h)
-no-start (Symbol.Constant i v) h = record { integer = refl; array = refl; procedure = refl }
-no-start (Symbol.Compconstant v) h = record { integer = refl; array = refl; procedure = refl }
-no-start (Symbol.Array a) h = absurd (miss (1 ∷ 2 ∷ 5 ∷ []) 3 tt h)
-no-start (Symbol.Procedure p accumulator) h = absurd (miss (1 ∷ 2 ∷ 5 ∷ []) 4 tt h)
-no-start Symbol.Unknown h = record { integer = refl; array = refl; procedure = refl }
+no-start (Symbol.Integer i) l f g h k = absurd (miss (1 ∷ 2 ∷ 5 ∷ []) 0 tt l)
+no-start (Symbol.Constant i v) l f g h k = refl
+no-start (Symbol.Compconstant v) l f g h k = refl
+no-start (Symbol.Array a) l f g h k = absurd (miss (1 ∷ 2 ∷ 5 ∷ []) 3 tt l)
+no-start (Symbol.Procedure p accumulator) l f g h k = absurd (miss (1 ∷ 2 ∷ 5 ∷ []) 4 tt l)
+no-start Symbol.Unknown l f g h k = refl

@@ -5,14 +5,14 @@ use Rattle.source.specs.Bytes.{whether}
 use Rattle.source.specs.Kinds
 use Rattle.source.specs.declared.Token.{Token}
 use Rattle.source.specs.Tokens.{nameOf}
+use Rattle.syntax.specs.Tree as tree
 use Rattle.syntax.specs.Parse.{Got, is}
 use Rattle.syntax.specs.Symbols as symbols
 use Rattle.syntax.specs.Cells as cells
 use Rattle.syntax.specs.Expressions as expressions
 use Rattle.syntax.specs.Statements as statements
-use Rattle.operands.specs.Trees.{treeId, treeArray, treeOperand}
+use Rattle.symbols.specs.Trees.{treeId, treeArray, treeOperand}
 use Rattle.cells.specs.declared.Part.{Part}
-use Rattle.cells.specs.declared.Symbol.{Symbol}
 use Rattle.cells.specs.declared.CellStart.{CellStart}
 use Rattle.cells.specs.declared.TermStart.{TermStart}
 use Rattle.cells.specs.declared.StatementStart.{StatementStart}
@@ -27,17 +27,24 @@ unfoldable pub gotWith : {A : Type 0} → Part → A → Got A
 gotWith (Part.Read n) t = Got.got t n
 gotWith (Part.Failed k at) t = Got.failed k at
 
--- what a token stands for as a name
-unfoldable pub symbolAt : List ℕ → symbols.Names → Token → symbols.Symbol
-symbolAt source names t = whether (is Kinds.name t) (λ _. symbols.symbolOf names (nameOf source t)) (λ _. symbols.Symbol.unknown)
+-- the answer to a result: its part, with what was read or, where it failed, a fixed value
+unfoldable pub answerOf : {A : Type 0} → A → Got A → Part × A
+answerOf none (Got.got t n) = (Part.Read n, t)
+answerOf none (Got.failed k at) = (Part.Failed k at, none)
 
-unfoldable pub treeSymbol : Symbol → symbols.Symbol
-treeSymbol (Symbol.Integer i) = symbols.Symbol.integer (treeId i)
-treeSymbol (Symbol.Constant i v) = symbols.Symbol.constant (treeId i) v
-treeSymbol (Symbol.Compconstant v) = symbols.Symbol.compconstant v
-treeSymbol (Symbol.Array a) = symbols.Symbol.array (treeArray a)
-treeSymbol (Symbol.Procedure p accumulator) = symbols.Symbol.procedure p accumulator
-treeSymbol Symbol.Unknown = symbols.Symbol.unknown
+-- the values of a failed operand and cell
+abbrev pub noOperand : tree.Operand
+noOperand = tree.Operand.literal 0
+
+abbrev pub noCell : tree.Cell
+noCell = tree.Cell.plain noOperand
+
+-- what a token stands for: a numeral for its value, as a compconstant's name does
+unfoldable pub symbolAt : List ℕ → symbols.Names → Token → symbols.Symbol
+symbolAt source names t =
+    whether (is Kinds.numeral t) (λ _. symbols.Symbol.compconstant (t .value)) λ _.
+    whether (is Kinds.name t) (λ _. symbols.symbolOf names (nameOf source t)) λ _.
+    symbols.Symbol.unknown
 
 unfoldable pub treeCellStart : CellStart → cells.CellStart
 treeCellStart (CellStart.Whole o) = cells.CellStart.operand (treeOperand o)

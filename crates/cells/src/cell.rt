@@ -2,25 +2,27 @@
 ghost use mathlib.Core.Path.{_≡_};
 ghost use Rattle.source.specs.Tokens.{tokenAt};
 ghost use Rattle.syntax.specs.Cells.{subscriptOf, parseSubscript, cellFrom, parseCell, parseLoneCell};
+ghost use Rattle.syntax.specs.Tree as tree;
+ghost use Rattle.syntax.specs.Cells as cells;
 ghost use Rattle.symbols.specs.Table.{heldBy};
-ghost use Rattle.operands.specs.Trees.{treeOperand, treeSubscript, treeCell};
+ghost use Rattle.symbols.specs.Trees.{treeOperand, treeSubscript, treeCell, treeSymbol};
 ghost use Rattle.cells.specs.Starts.{operandBy, cellBy};
-ghost use Rattle.cells.specs.Answers.{gotWith, treeSymbol, treeCellStart};
+ghost use Rattle.cells.specs.Answers.{answerOf, noOperand, noCell, treeCellStart};
 use crate::CellStart;
 use crate::Part;
-use crate::Symbol;
 use crate::expect;
 use crate::fail_at;
 use crate::failures;
-use crate::meaning::meaning_by;
 use crate::refused;
-use operands::Cell;
-use operands::Operand;
-use operands::Subscript;
+use crate::symbol_of;
 use source::Token;
 use source::kind;
 use source::operator_at;
 use source::token_at;
+use symbols::Cell;
+use symbols::Operand;
+use symbols::Subscript;
+use symbols::Symbol;
 
 struct OperandAnswer {
     part: Part,
@@ -43,12 +45,16 @@ pub(crate) struct CellStartAnswer {
 }
 
 // What a failed operand's answer holds.
-fn no_operand() -> Operand {
+fn no_operand() -> Operand
+    ensures { λ r. ⌜ r ≡ Operand.Literal 0 ⌝ }
+{
     Operand::Literal { value: 0 }
 }
 
 // What a failed cell's answer holds.
-fn no_cell() -> Cell {
+fn no_cell() -> Cell
+    ensures { λ r. ⌜ r ≡ Cell.Plain (Operand.Literal 0) ⌝ }
+{
     Cell::Plain {
         operand: no_operand(),
     }
@@ -56,7 +62,7 @@ fn no_cell() -> Cell {
 
 // A token as an operand, by what it stands for.
 fn operand_of(t: Token, symbol: Symbol) -> OperandAnswer
-    ensures { λ r. ⌜ gotWith (r .part) (treeOperand (r .operand)) ≡ operandBy (treeSymbol symbol) t ⌝ }
+    ensures { λ r. ⌜ (r .part, treeOperand (r .operand)) ≡ answerOf noOperand (operandBy (treeSymbol symbol) t) ⌝ }
 {
     let part = Part::Read { next: t.next };
     match symbol {
@@ -81,7 +87,8 @@ fn operand_of(t: Token, symbol: Symbol) -> OperandAnswer
 
 // A subscript between its brackets.
 fn inner_subscript_at(source: &[u8], table: &[u16], names: usize, at: usize) -> SubscriptAnswer
-    ensures { λ r. ⌜ gotWith (r .part) (treeSubscript (r .subscript)) ≡ subscriptOf (now (source .entry)) (heldBy names (now (table .entry))) (tokenAt (now (source .entry)) at) ⌝ }
+    ensures { λ r. ⌜ (r .part, treeSubscript (r .subscript))
+        ≡ answerOf tree.Subscript.hash (subscriptOf (now (source .entry)) (heldBy names (now (table .entry))) (tokenAt (now (source .entry)) at)) ⌝ }
 {
     let t = token_at(source, at);
     if t.kind == kind::HASH {
@@ -90,7 +97,7 @@ fn inner_subscript_at(source: &[u8], table: &[u16], names: usize, at: usize) -> 
             subscript: Subscript::Hash,
         };
     }
-    let read = operand_of(t, meaning_by(source, table, names, t));
+    let read = operand_of(t, symbol_of(source, table, names, t));
     let part = read.part;
     let Part::Read { next: _ } = part else {
         return SubscriptAnswer {
@@ -107,7 +114,8 @@ fn inner_subscript_at(source: &[u8], table: &[u16], names: usize, at: usize) -> 
 
 // A subscript in its brackets.
 pub fn subscript_at(source: &[u8], table: &[u16], names: usize, at: usize) -> SubscriptAnswer
-    ensures { λ r. ⌜ gotWith (r .part) (treeSubscript (r .subscript)) ≡ parseSubscript (now (source .entry)) (heldBy names (now (table .entry))) at ⌝ }
+    ensures { λ r. ⌜ (r .part, treeSubscript (r .subscript))
+        ≡ answerOf tree.Subscript.hash (parseSubscript (now (source .entry)) (heldBy names (now (table .entry))) at) ⌝ }
 {
     let part = expect(source, kind::LEFT_BRACKET, at);
     let Part::Read { next: inner } = part else {
@@ -122,13 +130,19 @@ pub fn subscript_at(source: &[u8], table: &[u16], names: usize, at: usize) -> Su
         return read;
     };
     let part = expect(source, kind::RIGHT_BRACKET, end);
+    let Part::Read { next: _ } = part else {
+        return SubscriptAnswer {
+            part,
+            subscript: Subscript::Hash,
+        };
+    };
     let subscript = read.subscript;
     SubscriptAnswer { part, subscript }
 }
 
 // A cell's first token, by what it stands for.
 pub(crate) fn cell_start_of(t: Token, symbol: Symbol) -> CellStartAnswer
-    ensures { λ r. ⌜ gotWith (r .part) (treeCellStart (r .start)) ≡ cellBy (treeSymbol symbol) t ⌝ }
+    ensures { λ r. ⌜ (r .part, treeCellStart (r .start)) ≡ answerOf (cells.CellStart.operand noOperand) (cellBy (treeSymbol symbol) t) ⌝ }
 {
     let Symbol::Array { array } = symbol else {
         let read = operand_of(t, symbol);
@@ -161,7 +175,8 @@ pub fn cell_from(
     start: CellStart,
     at: usize,
 ) -> CellAnswer
-    ensures { λ r. ⌜ gotWith (r .part) (treeCell (r .cell)) ≡ cellFrom (now (source .entry)) (heldBy names (now (table .entry))) (treeCellStart start) at ⌝ }
+    ensures { λ r. ⌜ (r .part, treeCell (r .cell))
+        ≡ answerOf noCell (cellFrom (now (source .entry)) (heldBy names (now (table .entry))) (treeCellStart start) at) ⌝ }
 {
     match start {
         CellStart::Whole { operand } => CellAnswer {
@@ -187,10 +202,10 @@ pub fn cell_from(
 }
 
 pub fn cell_at(source: &[u8], table: &[u16], names: usize, at: usize) -> CellAnswer
-    ensures { λ r. ⌜ gotWith (r .part) (treeCell (r .cell)) ≡ parseCell (now (source .entry)) (heldBy names (now (table .entry))) at ⌝ }
+    ensures { λ r. ⌜ (r .part, treeCell (r .cell)) ≡ answerOf noCell (parseCell (now (source .entry)) (heldBy names (now (table .entry))) at) ⌝ }
 {
     let t = token_at(source, at);
-    let read = cell_start_of(t, meaning_by(source, table, names, t));
+    let read = cell_start_of(t, symbol_of(source, table, names, t));
     let part = read.part;
     let start = read.start;
     let Part::Read { next } = part else {
@@ -204,7 +219,7 @@ pub fn cell_at(source: &[u8], table: &[u16], names: usize, at: usize) -> CellAns
 
 // A cell after which no operation may stand.
 pub fn lone_cell_at(source: &[u8], table: &[u16], names: usize, at: usize) -> CellAnswer
-    ensures { λ r. ⌜ gotWith (r .part) (treeCell (r .cell)) ≡ parseLoneCell (now (source .entry)) (heldBy names (now (table .entry))) at ⌝ }
+    ensures { λ r. ⌜ (r .part, treeCell (r .cell)) ≡ answerOf noCell (parseLoneCell (now (source .entry)) (heldBy names (now (table .entry))) at) ⌝ }
 {
     let read = cell_at(source, table, names, at);
     let part = read.part;

@@ -1,4 +1,6 @@
-// The numbers of the failures that reading a source can end in.
+// The numbers of the failures that reading a source can end in; 2 where the table that is lent for it is too short.
+pub const SHORT_SCRATCH: u16 = 2;
+
 pub const UNKNOWN: u16 = 4;
 
 pub const OUT_OF_RANGE: u16 = 5;

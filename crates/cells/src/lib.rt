@@ -1,5 +1,6 @@
 // Parsing of constants, cells and the first token of a term or statement: each as its definition in syntax, from an offset.
-// An answer's value counts where its part was read. Here: the types, a failure at a token, and constants; `failures` has the numbers.
+// An answer is a part and a value, which is a fixed one where the part failed. Here: the types, a failure at a token, and constants.
+// `failures` has the numbers.
 ghost use mathlib.Core.Path.{_≡_};
 ghost use Prim.Native.Nat.{ℕ, min};
 ghost use lib.Dec.{leb};
@@ -9,35 +10,26 @@ ghost use Rattle.syntax.specs.Parse.{expect as expectDef};
 ghost use Rattle.syntax.specs.Cells.{refuse, parseConstant, parseInRange};
 ghost use Rattle.syntax.specs.Declarations.{sizeOf};
 ghost use Rattle.symbols.specs.Table.{heldBy};
-ghost use Rattle.cells.specs.Answers.{partOf, gotWith, symbolAt, treeSymbol};
-use crate::meaning::meaning_by;
-use crate::meaning::symbol_by;
-use operands::Array;
-use operands::Id;
-use operands::Operand;
+ghost use Rattle.symbols.specs.Trees.{treeSymbol};
+ghost use Rattle.cells.specs.Answers.{partOf, answerOf, symbolAt};
 use source::Token;
 use source::kind;
 use source::token_at;
+use symbols::Array;
+use symbols::Id;
+use symbols::Operand;
+use symbols::Symbol;
+use symbols::find;
+use symbols::pack;
 
 pub mod cell;
 pub mod failures;
-mod meaning;
 pub mod openings;
 
 // Whether a part of the source was read, and up to where; or a failure's number and offset.
 pub enum Part {
     Read { next: usize },
     Failed { number: u16, at: usize },
-}
-
-// What a name stands for.
-pub enum Symbol {
-    Integer { id: Id },
-    Constant { id: Id, value: u16 },
-    Compconstant { value: u16 },
-    Array { array: Array },
-    Procedure { number: u16, accumulator: bool },
-    Unknown,
 }
 
 // How a cell begins: with an operand, which is all of it, or with an array's name.
@@ -129,19 +121,34 @@ pub fn refuse_at(source: &[u8], at: usize) -> Part
     refused(token_at(source, at))
 }
 
-// What the token at an offset stands for as a name, by the table's first `names` entries.
+// What a token of the source stands for: a name by the table's first `names` entries, a numeral for its value, as a compconstant's name does.
+// Of a token that is not the source's nothing is said: no name that is packed gives it back.
+pub(crate) fn symbol_of(source: &[u8], table: &[u16], names: usize, t: Token) -> Symbol
+    ensures { λ r. ⌜ ((at : ℕ) → t ≡ tokenAt (now (source .entry)) at
+        → treeSymbol r ≡ symbolAt (now (source .entry)) (heldBy names (now (table .entry))) t) ⌝ }
+{
+    if t.kind == kind::NUMERAL {
+        return Symbol::Compconstant { value: t.value };
+    }
+    if t.kind == kind::NAME {
+        return find(table, names, pack(source, t));
+    }
+    Symbol::Unknown
+}
+
+// The same of the token at an offset.
 pub fn symbol_at(source: &[u8], table: &[u16], names: usize, at: usize) -> Symbol
     ensures { λ r. ⌜ treeSymbol r ≡ symbolAt (now (source .entry)) (heldBy names (now (table .entry))) (tokenAt (now (source .entry)) at) ⌝ }
 {
-    symbol_by(source, table, names, token_at(source, at))
+    symbol_of(source, table, names, token_at(source, at))
 }
 
 pub fn constant_at(source: &[u8], table: &[u16], names: usize, at: usize) -> ConstantAnswer
-    ensures { λ r. ⌜ gotWith (r .part) (r .value) ≡ parseConstant (now (source .entry)) (heldBy names (now (table .entry))) at ⌝ }
+    ensures { λ r. ⌜ (r .part, r .value) ≡ answerOf 0 (parseConstant (now (source .entry)) (heldBy names (now (table .entry))) at) ⌝ }
 {
     let t = token_at(source, at);
     let part = Part::Read { next: t.next };
-    let symbol = meaning_by(source, table, names, t);
+    let symbol = symbol_of(source, table, names, t);
     match symbol {
         Symbol::Constant { id: _, value } => ConstantAnswer { part, value },
         Symbol::Compconstant { value } => ConstantAnswer { part, value },
@@ -154,7 +161,7 @@ pub fn constant_at(source: &[u8], table: &[u16], names: usize, at: usize) -> Con
 
 // A shift's amount.
 pub fn amount_at(source: &[u8], table: &[u16], names: usize, at: usize) -> ConstantAnswer
-    ensures { λ r. ⌜ gotWith (r .part) (r .value) ≡ parseInRange (now (source .entry)) (heldBy names (now (table .entry))) (between 1 15) at ⌝ }
+    ensures { λ r. ⌜ (r .part, r .value) ≡ answerOf 0 (parseInRange (now (source .entry)) (heldBy names (now (table .entry))) (between 1 15) at) ⌝ }
 {
     let read = constant_at(source, table, names, at);
     let part = read.part;
@@ -184,7 +191,7 @@ pub fn size_of(value: u16) -> u16
 
 // The constant that gives an array's size.
 pub fn size_at(source: &[u8], table: &[u16], names: usize, at: usize) -> ConstantAnswer
-    ensures { λ r. ⌜ gotWith (r .part) (r .value) ≡ parseInRange (now (source .entry)) (heldBy names (now (table .entry))) (λ v. leb (sizeOf v) 8192) at ⌝ }
+    ensures { λ r. ⌜ (r .part, r .value) ≡ answerOf 0 (parseInRange (now (source .entry)) (heldBy names (now (table .entry))) (λ v. leb (sizeOf v) 8192) at) ⌝ }
 {
     let read = constant_at(source, table, names, at);
     let part = read.part;

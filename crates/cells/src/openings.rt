@@ -4,23 +4,23 @@ ghost use Rattle.source.specs.Tokens.{tokenAt};
 ghost use Rattle.syntax.specs.Parse.{andThen};
 ghost use Rattle.syntax.specs.Parse.Got.{got};
 ghost use Rattle.syntax.specs.Expressions.{TermStart as TermDef, termStart, tooDeepExpr};
-ghost use Rattle.syntax.specs.Statements.{stmtStart};
+ghost use Rattle.syntax.specs.Statements.{StmtStart as StatementDef, stmtStart};
 ghost use Rattle.symbols.specs.Table.{heldBy};
 ghost use Rattle.cells.specs.Starts.{cellBy, termBy, opening};
-ghost use Rattle.cells.specs.Answers.{partOf, gotWith, treeSymbol, treeTermStart, treeStatementStart};
+ghost use Rattle.symbols.specs.Trees.{treeSymbol};
+ghost use Rattle.cells.specs.Answers.{partOf, answerOf, treeTermStart, treeStatementStart};
 use crate::Part;
 use crate::StatementStart;
-use crate::Symbol;
 use crate::TermStart;
 use crate::cell::cell_start_of;
 use crate::fail_at;
 use crate::failures;
-use crate::meaning::meaning_by;
-use crate::meaning::symbol_by;
 use crate::refused;
+use crate::symbol_of;
 use source::Token;
 use source::kind;
 use source::token_at;
+use symbols::Symbol;
 
 pub struct TermAnswer {
     pub part: Part,
@@ -34,7 +34,8 @@ pub struct StatementAnswer {
 
 // A term that begins like a cell, by what its first token stands for.
 fn cell_term_of(t: Token, symbol: Symbol) -> TermAnswer
-    ensures { λ r. ⌜ gotWith (r .part) (treeTermStart (r .start)) ≡ andThen (cellBy (treeSymbol symbol) t) (λ c next. got (TermDef.cell c) next) ⌝ }
+    ensures { λ r. ⌜ (r .part, treeTermStart (r .start))
+        ≡ answerOf TermDef.zeroWord (andThen (cellBy (treeSymbol symbol) t) (λ c next. got (TermDef.cell c) next)) ⌝ }
 {
     let read = cell_start_of(t, symbol);
     let part = read.part;
@@ -53,7 +54,7 @@ fn cell_term_of(t: Token, symbol: Symbol) -> TermAnswer
 
 // A term that is a call or begins like a cell, by what its first token stands for.
 fn named_term_of(t: Token, symbol: Symbol) -> TermAnswer
-    ensures { λ r. ⌜ gotWith (r .part) (treeTermStart (r .start)) ≡ termBy (treeSymbol symbol) t ⌝ }
+    ensures { λ r. ⌜ (r .part, treeTermStart (r .start)) ≡ answerOf TermDef.zeroWord (termBy (treeSymbol symbol) t) ⌝ }
 {
     if let Symbol::Procedure {
         number,
@@ -70,7 +71,8 @@ fn named_term_of(t: Token, symbol: Symbol) -> TermAnswer
 }
 
 pub fn term_start_at(source: &[u8], table: &[u16], names: usize, at: usize) -> TermAnswer
-    ensures { λ r. ⌜ gotWith (r .part) (treeTermStart (r .start)) ≡ termStart (now (source .entry)) (heldBy names (now (table .entry))) (tokenAt (now (source .entry)) at) ⌝ }
+    ensures { λ r. ⌜ (r .part, treeTermStart (r .start))
+        ≡ answerOf TermDef.zeroWord (termStart (now (source .entry)) (heldBy names (now (table .entry))) (tokenAt (now (source .entry)) at)) ⌝ }
 {
     let t = token_at(source, at);
     let part = Part::Read { next: t.next };
@@ -88,7 +90,7 @@ pub fn term_start_at(source: &[u8], table: &[u16], names: usize, at: usize) -> T
             part,
             start: TermStart::Bracket,
         },
-        _ => named_term_of(t, meaning_by(source, table, names, t)),
+        _ => named_term_of(t, symbol_of(source, table, names, t)),
     }
 }
 
@@ -114,7 +116,7 @@ pub fn too_deep_at(source: &[u8], table: &[u16], names: usize, at: usize) -> Par
 
 // A statement that does not begin with a name.
 fn opening_of(t: Token) -> StatementAnswer
-    ensures { λ r. ⌜ gotWith (r .part) (treeStatementStart (r .start)) ≡ opening t ⌝ }
+    ensures { λ r. ⌜ (r .part, treeStatementStart (r .start)) ≡ answerOf StatementDef.hash (opening t) ⌝ }
 {
     let kind = t.kind;
     let start = match kind {
@@ -139,11 +141,12 @@ fn opening_of(t: Token) -> StatementAnswer
 }
 
 pub fn statement_start_at(source: &[u8], table: &[u16], names: usize, at: usize) -> StatementAnswer
-    ensures { λ r. ⌜ gotWith (r .part) (treeStatementStart (r .start)) ≡ stmtStart (now (source .entry)) (heldBy names (now (table .entry))) (tokenAt (now (source .entry)) at) ⌝ }
+    ensures { λ r. ⌜ (r .part, treeStatementStart (r .start))
+        ≡ answerOf StatementDef.hash (stmtStart (now (source .entry)) (heldBy names (now (table .entry))) (tokenAt (now (source .entry)) at)) ⌝ }
 {
     let t = token_at(source, at);
     let part = Part::Read { next: t.next };
-    let symbol = symbol_by(source, table, names, t);
+    let symbol = symbol_of(source, table, names, t);
     match symbol {
         Symbol::Integer { id } => StatementAnswer {
             part,

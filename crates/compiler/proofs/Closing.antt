@@ -1,78 +1,59 @@
 -- Demand 3 over calls, from demand 3 over the definitions: what the calls ensure fixes the definitions' results. Assumes nothing.
-use Prim.Native.Nat.{ℕ, _+_}
-use mathlib.Core.Path.{_≡_, refl, sym, ap, _∙_, subst}
-use mathlib.Core.Bool.{Bool, true, false, cond}
-use mathlib.Core.List.{List, _∷_}
+use Prim.Native.Nat.{ℕ}
+use mathlib.Core.Path.{_≡_, refl, sym, _∙_}
+use mathlib.Core.Bool.{Bool, true, false}
+use mathlib.Core.List.{List, [], _∷_}
 use native.Mathlib.Omega.{arith}
 use lib.Dec.{eqb, leb}
 use lib.ListN.{length}
 use Rattle.source.specs.Bytes.{whether}
 use Rattle.machine.specs.declared.Clock.{Clock}
 use Rattle.machine.specs.declared.Request.{Request}
-use Rattle.machine.specs.declared.Machine.{Machine}
 use Rattle.machine.specs.declared.Report.{Report}
-use Rattle.machine.specs.Failure.{refused}
+use Rattle.machine.specs.Run.{runDef}
 use Rattle.machine.specs.State as machine
-use Rattle.runs.specs.Runs.{Total, runsDef, budgetsOf}
+use Rattle.runs.specs.Runs.{Total, withRun, runsDef, Comes}
 use Rattle.syntax.specs.Tree.{Program}
 use Rattle.emission.specs.Compile.{Compiled, Result, compileDef}
 use Rattle.semantics.specs.Trace.{State}
-use Rattle.semantics.specs.Agreement as semantics
-use Rattle.semantics.specs.Agreement.{Meets, Demand3, Loadable}
+use Rattle.semantics.specs.Agreement.{Agrees, Demand3, Loadable}
 use Rattle.semantics.proofs.Demand.Theorem.{demand3}
 use Rattle.semantics.proofs.Demand.Loading as loading
 use Rattle.compiler.specs.declared.Answer.{Answer}
-use Rattle.compiler.specs.Compile.{resultOn, answerOf, imageAfter}
-use Rattle.compiler.specs.Closing.{RunCalled, Calls, total, FateCalled, AgreesCalled, delivered, Accepted, Demand3Called}
+use Rattle.compiler.specs.Compile.{imageWords, scratchWords, resultOn, answerOf, imageAfter}
+use Rattle.compiler.specs.Closing.{RunCalled, Calls, delivered, Accepted, Demand3Called}
 
--- ---- A list of calls is the list of runs
+-- ---- What calls come to, runs come to
 
-pub record Fixed (m : Machine) (k : Clock) (memory : List ℕ) (qs : List Request) (t : Total) (granted : ℕ) : Type 0 where
-  pub runs : runsDef qs (machine.state m memory) k ≡ t
-  pub budgets : budgetsOf qs (machine.state m memory) ≡ granted
+-- one call before the others, whose report is the run's
+comes-more : {q : Request} {k : Clock} {s : machine.State} {r : Report} {memory : List ℕ} {t : Total}
+    → RunCalled q (s .machine) k (s .image) r memory → Comes (machine.state (r .machine) memory) t → Comes s (withRun q (r .outcome) (r .steps) t)
+unfolding runsDef
+comes-more {q} {s = s} call (Comes.list qs) = rw (call .reported, call .left) (Comes.list (q ∷ qs))
 
--- one run before the others
-module _ {q : Request} {m : Machine} {k : Clock} {memory : List ℕ} {qs : List Request} {t : Total} {granted : ℕ} where
-  first : (r : Report) (memory' : List ℕ) → RunCalled q m k memory r memory' → Fixed (r .machine) (r .clock) memory' qs t granted
-      → Fixed m k memory (q ∷ qs) (record { steps = r .steps + t .steps; state = t .state; clock = t .clock }) (cond (refused (r .outcome)) 0 (q .budget) + granted)
-  unfolding runsDef budgetsOf
-  first r memory' call f =
-      let g = rw (call .reported, call .left) at f in
-      rw (call .reported) (record { runs = rw (g .runs); budgets = rw (g .budgets) })
+comes : {s : machine.State} {t : Total} → Calls s t → Comes s t
+unfolding runsDef
+comes Calls.none = Comes.list []
+comes (Calls.one call rest) = comes-more call (comes rest)
 
-fixed : {m m' : Machine} {k k' : Clock} {memory memory' : List ℕ} {qs : List Request} {steps granted : ℕ}
-    → Calls m k memory qs steps granted m' k' memory' → Fixed m k memory qs (total steps m' k' memory') granted
-unfolding runsDef budgetsOf
-fixed Calls.none = record { runs = refl; budgets = refl }
-fixed (Calls.one call rest) = first _ _ call (fixed rest)
+-- and what runs come to, calls come to, whatever the clock
+called : (qs : List Request) (s : machine.State) → Calls s (runsDef qs s)
+unfolding runsDef
+called [] s = Calls.none
+called (q ∷ qs) s = Calls.one {k = record { common = 0 }} (record { reported = refl; left = refl }) (called qs (runDef q s .state))
 
--- ---- What they show
-
-module _ {p : Program} {σ : State} {m : Machine} {memory : List ℕ} (a : semantics.Agrees p σ (machine.state m memory)) where
-  met : {k k' : Clock} {qs : List Request} {steps granted : ℕ} {m' : Machine} {memory' : List ℕ} (τ : State)
-      → ((qs : List Request) (k : Clock) → budgetsOf qs (machine.state m memory) ≡ τ .steps → Meets p τ (runsDef qs (machine.state m memory) k))
-      → Calls m k memory qs steps granted m' k' memory' → granted ≡ τ .steps → Meets p τ (total steps m' k' memory')
-  met {k = k} {qs = qs} τ h calls e = let f = fixed calls in subst (Meets p τ) (f .runs) (h qs k (f .budgets ∙ e))
-
-  ended : {steps granted : ℕ} {k k' : Clock} {qs : List Request} {m' : Machine} {memory' : List ℕ} → Fixed m k memory qs (total steps m' k' memory') granted
-      → semantics.Fate p σ (machine.state m memory) qs k → FateCalled p σ steps granted m' memory'
-  ended f (semantics.Fate.halts fuel τ e l h n s) =
-      FateCalled.halts fuel τ e (rw (f .budgets) at l) (sym (ap (λ t. t .state .machine .halted) (f .runs)) ∙ h)
-      (sym (ap (λ t. t .steps) (f .runs)) ∙ n) (subst (λ t. semantics.Shows p τ (t .state)) (f .runs) s)
-  ended f (semantics.Fate.goes-on e h n) =
-      FateCalled.goes-on (λ fuel τ x. rw (f .budgets) at (e fuel τ x)) (sym (ap (λ t. t .state .machine .halted) (f .runs)) ∙ h)
-      (sym (ap (λ t. t .steps) (f .runs)) ∙ n ∙ f .budgets)
-
-  called : AgreesCalled p σ m memory
-  called = record {
-    steady = a .steady;
-    complete = a .complete;
-    rising = a .rising;
-    homes = a .homes;
-    observed = λ f τ o calls e. met τ (a .observed f τ o) calls e;
-    broken = λ f τ b calls e. met τ (a .broken f τ b) calls e;
-    fate = λ none calls. ended (fixed calls) (a .fate none _ _);
-  }
+-- a statement about what lists come to holds of fewer lists too
+fewer : {p : Program} {σ : State} {C D : Total → Type 0} → ((t : Total) → D t → C t) → Agrees p σ C → Agrees p σ D
+fewer h a = record {
+  steady = a .steady;
+  complete = a .complete;
+  rising = a .rising;
+  homes = a .homes;
+  observed = λ f τ o t d. a .observed f τ o t (h t d);
+  broken = λ f τ b t d. a .broken f τ b t (h t d);
+  until-broken = λ f τ b t d. a .until-broken f τ b t (h t d);
+  ends = λ whole t d. a .ends whole t (h t d);
+}
 
 -- ---- An accepted source
 
@@ -95,7 +76,7 @@ not-refused false d x c e = let z : _≡_ {A = ℕ} 0 1 = cc in absurd (omega ar
 
 compiled-as : (source image scratch : List ℕ) (c : Compiled) → resultOn source image scratch ≡ Result.accepted c → compileDef source ≡ Result.accepted c
 unfolding resultOn
-compiled-as source image scratch c e = not-refused (eqb (length image) 16384) (leb 12288 (length scratch)) (compileDef source) c e
+compiled-as source image scratch c e = not-refused (eqb (length image) imageWords) (leb scratchWords (length scratch)) (compileDef source) c e
 
 pub demand3-called : Demand3Called
 unfolding Demand3Called Demand3 Loadable
@@ -105,6 +86,7 @@ demand3-called source image scratch image' scratch' r call e w g q =
     record {
       program = a .0;
       defined = d;
-      agrees = λ σ m memory l. called (demand3 source _ d σ _ l);
+      agrees = λ σ s l. fewer (λ t calls. comes calls) (demand3 source _ d σ s l);
+      called = called;
       loads = loading.loadable source _ d;
     }

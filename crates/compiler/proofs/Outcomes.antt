@@ -20,25 +20,25 @@ use Rattle.runs.specs.Ends.{Refusal}
 use Rattle.runs.proofs.Laws.{run-laws}
 use Rattle.emission.specs.Compile.{Result, compileDef}
 use Rattle.semantics.proofs.Demand.Laws.{emission-laws}
-use Rattle.failure_laws.proofs.Placed.Numbered.{numbered, short-enough}
+use Rattle.parsing_laws.proofs.Parsed.Programs.{numbered, short-enough}
 use Rattle.compiler.specs.declared.Answer.{Answer}
-use Rattle.compiler.specs.Compile.{resultOn, answerOf, imageAfter}
+use Rattle.compiler.specs.Compile.{imageWords, scratchWords, resultOn, answerOf, imageAfter}
 use Rattle.compiler.specs.Closing.{RunCalled}
 use Rattle.compiler.specs.Outcomes.{CompileEnds, RunEnds, Demand1Called}
 
 module _ (source image scratch : List ℕ) (r : Answer) (image' : List ℕ) where
-  by-text : length image ≡ 16384 → 12288 ≤ length scratch → (x : Result) → compileDef source ≡ x → r ≡ answerOf x → image' ≡ imageAfter x image → CompileEnds source image scratch r image'
+  by-text : length image ≡ imageWords → scratchWords ≤ length scratch → (x : Result) → compileDef source ≡ x → r ≡ answerOf x → image' ≡ imageAfter x image → CompileEnds source image scratch r image'
   unfolding answerOf imageAfter
   by-text l s (Result.accepted c) e a i = CompileEnds.accepted l s (short-enough source c e) (c .entry) (c .words) (c .globals) a (ap length i ∙ emission-laws .image-size source c e)
   by-text l s (Result.failed n at) e a i = CompileEnds.failed l s n at a (numbered source n at e) i
 
-  by-lengths : (b d : Bool) → eqb (length image) 16384 ≡ b → leb 12288 (length scratch) ≡ d
+  by-lengths : (b d : Bool) → eqb (length image) imageWords ≡ b → leb scratchWords (length scratch) ≡ d
       → let x = whether b (λ _. whether d (λ _. compileDef source) (λ _. Result.failed 2 0)) (λ _. Result.failed 1 0) in
       r ≡ answerOf x → image' ≡ imageAfter x image → CompileEnds source image scratch r image'
   unfolding answerOf imageAfter
-  by-lengths true true l s a i = by-text (eqb-true (length image) 16384 l) (leb-true 12288 (length scratch) s) (compileDef source) refl a i
-  by-lengths true false l s a i = CompileEnds.short-scratch (eqb-true (length image) 16384 l) (leb-false 12288 (length scratch) s) a i
-  by-lengths false d l s a i = CompileEnds.wrong-image (eqb-false (length image) 16384 l) a i
+  by-lengths true true l s a i = by-text (eqb-true (length image) imageWords l) (leb-true scratchWords (length scratch) s) (compileDef source) refl a i
+  by-lengths true false l s a i = CompileEnds.short-scratch (eqb-true (length image) imageWords l) (leb-false scratchWords (length scratch) s) a i
+  by-lengths false d l s a i = CompileEnds.wrong-image (eqb-false (length image) imageWords l) a i
 
 -- ---- Runs
 
@@ -84,6 +84,6 @@ pub demand1-called : Demand1Called
 unfolding resultOn
 demand1-called = record {
   compiles = λ source image scratch image' scratch' r call.
-      (by-lengths source image scratch r image' (eqb (length image) 16384) (leb 12288 (length scratch)) refl refl (call .answered) (call .laid), call .cleared);
+      (by-lengths source image scratch r image' (eqb (length image) imageWords) (leb scratchWords (length scratch)) refl refl (call .answered) (call .laid), call .cleared);
   runs = λ q m k memory memory' r call. by-refusal q m k memory memory' r call (refused (runDef q (machine.state m memory) .outcome)) refl (runDef q (machine.state m memory) .outcome) refl;
 }

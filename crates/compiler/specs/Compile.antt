@@ -7,11 +7,17 @@ use Rattle.source.specs.Bytes.{whether}
 use Rattle.emission.specs.Compile.{Result, compileDef}
 use Rattle.compiler.specs.declared.Answer.{Answer}
 
+abbrev pub imageWords : ℕ
+imageWords = 16384
+
+abbrev pub scratchWords : ℕ
+scratchWords = 12288
+
 -- "image not 16,384 words" is 1, "scratch under 12,288 words" 2, both at 0 and before reading; "text over 8,192 bytes" is 3, the definition's own
 unfoldable pub resultOn : List ℕ → List ℕ → List ℕ → Result
 resultOn source image scratch =
-    whether (eqb (length image) 16384)
-    (λ _. whether (leb 12288 (length scratch)) (λ _. compileDef source) (λ _. Result.failed 2 0))
+    whether (eqb (length image) imageWords)
+    (λ _. whether (leb scratchWords (length scratch)) (λ _. compileDef source) (λ _. Result.failed 2 0))
     (λ _. Result.failed 1 0)
 
 -- the paper's values and numbers of each case: entry, count of words from '1000, count of words from '200; failure number and byte offset

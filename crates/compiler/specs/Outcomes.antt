@@ -12,20 +12,21 @@ use Rattle.machine.specs.State as machine
 use Rattle.machine.specs.Clock.{spendMany}
 use Rattle.machine.specs.Run.{ran, endedOf}
 use Rattle.runs.specs.Ends.{Ended, Refusal}
-use Rattle.failure_laws.specs.Numbered.{Numbered}
+use Rattle.parsing_laws.specs.Numbered.{Numbered}
 use Rattle.compiler.specs.declared.Answer.{Answer}
+use Rattle.compiler.specs.Compile.{imageWords, scratchWords}
 use Rattle.compiler.specs.Closing.{CompileCalled, RunCalled}
 
 -- of `compile`; a failed call leaves the image as it was
 pub data CompileEnds (source image scratch : List ℕ) (r : Answer) (image' : List ℕ) : Type 0 where
   -- "image not 16,384 words" is 1 at 0
-  wrong-image : (length image ≡ 16384 → ⊥) → r ≡ Answer.Failed 1 0 → image' ≡ image → CompileEnds source image scratch r image'
+  wrong-image : (length image ≡ imageWords → ⊥) → r ≡ Answer.Failed 1 0 → image' ≡ image → CompileEnds source image scratch r image'
   -- "scratch under 12,288 words" is 2 at 0
-  short-scratch : length image ≡ 16384 → length scratch < 12288 → r ≡ Answer.Failed 2 0 → image' ≡ image → CompileEnds source image scratch r image'
+  short-scratch : length image ≡ imageWords → length scratch < scratchWords → r ≡ Answer.Failed 2 0 → image' ≡ image → CompileEnds source image scratch r image'
   -- 3 to 14, at an offset in the text
-  failed : length image ≡ 16384 → 12288 ≤ length scratch → (n at : ℕ) → r ≡ Answer.Failed n at → Numbered source n at → image' ≡ image → CompileEnds source image scratch r image'
+  failed : length image ≡ imageWords → scratchWords ≤ length scratch → (n at : ℕ) → r ≡ Answer.Failed n at → Numbered source n at → image' ≡ image → CompileEnds source image scratch r image'
   -- what an image is and does: specs/Closing
-  accepted : length image ≡ 16384 → 12288 ≤ length scratch → length source ≤ 8192 → (entry words globals : ℕ) → r ≡ Answer.Accepted entry words globals → length image' ≡ 16384 → CompileEnds source image scratch r image'
+  accepted : length image ≡ imageWords → scratchWords ≤ length scratch → length source ≤ 8192 → (entry words globals : ℕ) → r ≡ Answer.Accepted entry words globals → length image' ≡ imageWords → CompileEnds source image scratch r image'
 
 -- of `run`
 pub data RunEnds (q : Request) (m : Machine) (k : Clock) (memory : List ℕ) (r : Report) (memory' : List ℕ) : Type 0 where

@@ -4,8 +4,9 @@ ghost use Prim.Native.Nat.{_≤_};
 ghost use lib.ListN.{length, replicate};
 ghost use Rattle.emission.specs.Compile.{compileDef};
 ghost use Rattle.compiler.specs.Compile.{resultOn, answerOf, imageAfter};
-ghost use Rattle.compiler.specs.Passes.{countedOf};
+ghost use Rattle.compiler.specs.Passes.{countedOf, answeredOf};
 use cells::Part;
+use cells::failures::SHORT_SCRATCH;
 use declarations::Ends;
 use declarations::ProgramAnswer;
 use declarations::program::program;
@@ -22,9 +23,7 @@ const SCRATCH_WORDS: usize = 12288;
 
 const SOURCE_BYTES: usize = 8192;
 
-// Failures that are told by a length, at offset 0; a wrong image is the machine's failure too.
-const SHORT_SCRATCH: u16 = 2;
-
+// The failure of a text over SOURCE_BYTES; a wrong image is the machine's failure too, short scratch a table's.
 const LONG_SOURCE: u16 = 3;
 
 // The first address of code.
@@ -64,6 +63,17 @@ fn accepted(read: ProgramAnswer) -> Answer
     }
 }
 
+// The answer for a program that was read, or the failure that its reading ended in.
+fn answered(read: ProgramAnswer) -> Answer
+    ensures { λ r. ⌜ r ≡ answeredOf read ⌝ }
+{
+    let part = read.part;
+    match part {
+        Part::Read { next: _ } => accepted(read),
+        Part::Failed { number, at } => Answer::Failed { number, at },
+    }
+}
+
 // The two readings.
 fn passes(source: &[u8], image: &mut [u16], scratch: &mut [u16]) -> Answer
     requires { ⌜ (length (now source) ≤ 8192) × (length (now image) ≡ 16384) × (3584 ≤ length (now scratch)) ⌝ }
@@ -74,17 +84,22 @@ fn passes(source: &[u8], image: &mut [u16], scratch: &mut [u16]) -> Answer
         count: 0,
     };
     let read = program(source, &mut *scratch, &mut image[0..0], unplanned);
-    let part = read.part;
-    if let Part::Failed { number, at } = part {
-        return Answer::Failed { number, at };
-    }
+    let answer = answered(read);
+    let Answer::Accepted {
+        entry: _,
+        words: _,
+        globals: _,
+    } = answer
+    else {
+        return answer;
+    };
     let state = read.state;
     let end = read.end;
     let ends = state.ends;
     let plan = with_end(ends, end.code);
     clear(&mut *image);
     program(source, &mut *scratch, &mut *image, plan);
-    accepted(read)
+    answer
 }
 
 // The lengths are judged before anything is read.

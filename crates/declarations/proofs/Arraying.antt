@@ -7,12 +7,13 @@ use native.Mathlib.Omega.{arith}
 use borrow.Author.Tests.{eq-eqb, ne-eqb, lt-ltb, le-ltb, ltb-true}
 use lib.Dec.{eqb, leb, ltb}
 use lib.ListN.{length, set, replicate, length-append}
+use Rattle.cells.specs.Reads.Reads.{read, fails}
 use Rattle.source.specs.Bytes.{whether}
 use Rattle.source.specs.Kinds
 use Rattle.source.specs.declared.Token.{Token}
 use Rattle.source.specs.Tokens.{tokenAt}
 use Rattle.syntax.specs.Tree.{Name, Declaration}
-use Rattle.syntax.specs.Symbols.{Level, Names, declare, wordsTaken}
+use Rattle.syntax.specs.Symbols.{Symbol, Level, Names, declare, wordsTaken}
 use Rattle.syntax.specs.State as states
 use Rattle.syntax.specs.Limits.{nameLimit, spaceLimit, arrayLimit}
 use Rattle.syntax.specs.Parse.{Got, andThen, failAt, within, expect, snoc, parted}
@@ -20,22 +21,22 @@ use Rattle.syntax.specs.Parse.Got.{got, failed}
 use Rattle.syntax.specs.Cells.{parseConstant, parseInRange}
 use Rattle.syntax.specs.Declarations.{newName, sizeOf, parseInitial, parseInitials}
 use Rattle.symbols.specs.declared.Packed.{Packed}
-use Rattle.symbols.specs.declared.Kind.{Kind}
 use Rattle.symbols.specs.Packing.{unpack}
 use Rattle.symbols.specs.Table as tables
-use Rattle.symbols.proofs.Entries.{array-entry}
 use Rattle.emitter.specs.Programs.{stored, padded, emitDeclaration, emitDeclarations}
 use Rattle.cells.specs.declared.Part.{Part}
 use Rattle.cells.specs.Answers.{partOf, gotWith}
 use Rattle.declarations.specs.declared.Scope.{Scope}
 use Rattle.declarations.specs.declared.State.{State}
-use Rattle.declarations.specs.Reads.{Reads}
+use Rattle.declarations.specs.Declares.{Declares}
 use Rattle.declarations.specs.Scopes.{scopeOf}
 use Rattle.declarations.specs.States.{endsOf, poolOf, globalScope, withGlobal, stateOf, Sound, Anyhow, spaceNumber}
 use Rattle.declarations.specs.Arrays.{initialValue, Filled}
 use Rattle.declarations.proofs.Stating.{stored-more, more-declared}
 use Rattle.declarations.specs.Forms.{arrayHead, oneArray, arrayIn}
-use Rattle.declarations.proofs.Reading.{then-got, then-failed, then-inv, never, within-on, within-failed, expect-here, expect-other, reads-as}
+use Rattle.cells.proofs.Laws.{then-got, then-failed}
+use Rattle.cells.proofs.Reading.{never, reads-as}
+use Rattle.declarations.proofs.Reading.{then-inv, within-on, within-failed, expect-here, expect-other}
 use Rattle.declarations.proofs.Naming.{name-room}
 use Rattle.declarations.proofs.Scoping.{held-more, stored-append}
 use Rattle.declarations.proofs.Limiting.{limit-case, space-number, space-fits}
@@ -207,21 +208,21 @@ module _ (source : List ℕ) (st : states.State) (at : ℕ) where
 
 -- an array after those that are done
 pub array-next : (source : List ℕ) (at : ℕ) {s s' s'' : State} {t t' t'' i i' i'' : List ℕ} {done : List Declaration} {part : Part} → Anyhow s t i s' t' i' done
-    → Reads (λ d. Anyhow s' t' i' s'' t'' i'' (d ∷ [])) part (oneArray source (stateOf s' t') at) → Reads (Anyhow s t i s'' t'' i'') part (arrayIn source (stateOf s t) done at)
+    → Declares (λ d. Anyhow s' t' i' s'' t'' i'' (d ∷ [])) part (oneArray source (stateOf s' t') at) → Declares (Anyhow s t i s'' t'' i'') part (arrayIn source (stateOf s t) done at)
 unfolding arrayIn
 array-next source at {done = done} p r =
-    reads-as (snoc done) r refl (ap (λ z. andThen (oneArray source z at) (λ d n. got (snoc done d) n)) (sym (p (λ _. 0) .state))) (λ d h ends. more-declared (p ends) (h ends))
+    reads-as (snoc done) r refl (ap (λ z. andThen (oneArray source z at) (λ d n. got (snoc done d) n)) (sym (p (λ _. 0) .state))) (λ d h ends. more-declared (p ends) (h ends)) (λ w. w)
 
 -- declared
 module _ (s : State) (t u image between after : List ℕ) (name : Packed) (size : ℕ) (values : List ℕ) where
   pub array-declared : Sound s → 3584 ≤ length t → Roomy (stateOf s t) size → length (tables.heldBy (s .names) t) ≡ s .names → length u ≡ length t
-      → tables.Declared (s .names) t name 0 (Kind.Array (s .words) size) u → between ≡ set image (0o200 + s .words) (0o40000 + s .array)
+      → tables.Declared (s .names) t name 0 (Symbol.array (record { number = s .words; size = size })) u → between ≡ set image (0o200 + s .words) (0o40000 + s .array)
       → after ≡ stored between (s .array - size) (padded size values)
       → Anyhow s t image (withGlobal s (s .output) (s .array - size)) u after (Declaration.array (unpack name) size values ∷ [])
-  unfolding emitDeclarations emitDeclaration states.step declare wordsTaken tables.levelWord
+  unfolding emitDeclarations emitDeclaration states.step declare wordsTaken tables.levelOf tables.atLevel tables.entryOf
   array-declared h long room held same d e i =
       let few = room .names in
-      let names = held-more (s .names) t u name 0 (Kind.Array (s .words) size) (omega arith) same d ∙ ap (λ x. (unpack name, x) ∷ tables.heldBy (s .names) t) (array-entry Level.outer (record { number = s .words; size = size })) in
+      let names = held-more (s .names) t u name 0 (Symbol.array (record { number = s .words; size = size })) (omega arith) same d in
       λ _. record {
         state = ap (λ x. record { scope = record { names = x; level = Level.outer; words = s .words + 1 }; code = s .output .code; pool = poolOf s; ends = endsOf (s .ends); array = s .array - size }) names;
         sound = record { few = omega arith; each = omega (arith, h .each); ends = h .ends; used = h .used; fits = h .fits; top = omega (arith, h .top) };
@@ -241,8 +242,8 @@ more-filled {first} {size} {count} v {image} {now} {after} {values} f h e =
 -- a value after those that are done
 module _ (source : List ℕ) (names : Names) (at : ℕ) {first size count : ℕ} {image now values : List ℕ} {part : Part} (f : Filled first size image count now values) where
   pub value-next : {v n : ℕ} {after : List ℕ} → initialValue source names size count at ≡ got v n → part ≡ Part.Read n → after ≡ set now (first + count) v
-      → Reads (Filled first size image (count + 1) after) part (parseInitial source names size values at)
-  value-next {v} e p h = Reads.read (more-values source names size at values (f .counted) ∙ then-got _ e) p (more-filled v f (value-room source names size at count e) h)
+      → Declares (Filled first size image (count + 1) after) part (parseInitial source names size values at)
+  value-next {v} e p h = read (more-values source names size at values (f .counted) ∙ then-got _ e) p (more-filled v f (value-room source names size at count e) h)
 
-  pub value-fails : {held : List ℕ → Type 0} {k a : ℕ} → initialValue source names size count at ≡ failed k a → part ≡ Part.Failed k a → Reads held part (parseInitial source names size values at)
-  value-fails e p = Reads.fails (more-values source names size at values (f .counted) ∙ then-failed _ e) p
+  pub value-fails : {held : List ℕ → Type 0} {k a : ℕ} → initialValue source names size count at ≡ failed k a → part ≡ Part.Failed k a → Declares held part (parseInitial source names size values at)
+  value-fails e p = fails (more-values source names size at values (f .counted) ∙ then-failed _ e) p tt

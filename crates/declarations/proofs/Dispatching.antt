@@ -25,12 +25,12 @@ use Rattle.syntax.specs.Declarations.{ItemWord, newName, sizeOf, parseItem, par
 use Rattle.syntax.specs.Program.{parseMain}
 use Rattle.cells.specs.declared.Part.{Part}
 use Rattle.declarations.specs.declared.State as code
-use Rattle.declarations.specs.Reads.{Reads}
+use Rattle.declarations.specs.Declares.{Declares}
 use Rattle.declarations.specs.States.{stateOf, Declared}
 use Rattle.declarations.specs.Forms.{declarationsOf, begins, itemsIn, arrayHead, oneArray, arrayIn, arraysIn, judgedIn, headingIn, bodyIn, procedureIn, accumulatorIn, declarationIn}
 use Rattle.declarations.specs.Procedures.{wordOf, mainIn}
 use Rattle.declarations.proofs.Locals.{word-none}
-use Rattle.declarations.proofs.Reading.{Turning, reads-as}
+use Rattle.cells.proofs.Reading.{Turning, reads-as}
 use Rattle.declarations.proofs.Stating.{more-declared}
 use Rattle.declarations.proofs.Mapping.{mapped, then-mapped, map-list}
 
@@ -260,10 +260,10 @@ module _ (source : List ℕ) (ds : List Declaration) (at : ℕ) {t : Token} (e :
 
 -- with the state that the code has
 pub declaration-next : (source : List ℕ) (u : Token) {ends : ℕ → ℕ} {s s' s'' : code.State} {t t' t'' i i' i'' : List ℕ} {done : List Declaration} {part : Part} → stateOf s t ≡ start → Declared ends s t i s' t' i' done
-    → Reads (Declared ends s' t' i' s'' t'' i'') part (declarationIn source (stateOf s' t') u) → Reads (Declared ends s t i s'' t'' i'') part (mapped (λ new. done ++ new) (declarationIn source (stateAfter done) u))
+    → Declares (Declared ends s' t' i' s'' t'' i'') part (declarationIn source (stateOf s' t') u) → Declares (Declared ends s t i s'' t'' i'') part (mapped (λ new. done ++ new) (declarationIn source (stateAfter done) u))
 unfolding stateAfter
 declaration-next source u {done = done} e p r =
-    reads-as (λ new. done ++ new) r refl (ap (λ st. mapped (λ new. done ++ new) (declarationIn source st u)) (sym (p .state ∙ ap (λ x. foldl step x done) e))) (λ new d. more-declared p d)
+    reads-as (λ new. done ++ new) r refl (ap (λ st. mapped (λ new. done ++ new) (declarationIn source st u)) (sym (p .state ∙ ap (λ x. foldl step x done) e))) (λ new d. more-declared p d) (λ w. w)
 
 -- ---- The forms, by the token
 

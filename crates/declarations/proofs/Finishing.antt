@@ -35,7 +35,7 @@ use Rattle.declarations.specs.Scopes.{Scoped}
 use Rattle.declarations.specs.States.{endsOf, endOf, poolOf, globalScope, stateOf, Sound, Declared, Anyhow, sectorNumber}
 use Rattle.declarations.specs.Forms.{declarationsOf}
 use Rattle.declarations.specs.Procedures.{basesAt, mainIn, Finished, programIn, Compiled}
-use Rattle.declarations.proofs.Reading.{then-got, then-failed}
+use Rattle.cells.proofs.Laws.{then-got, then-failed}
 use Rattle.declarations.proofs.Scoping.{stored-append, item-words}
 use Rattle.declarations.proofs.Limiting.{sector-number}
 use Rattle.declarations.proofs.Plans.{ends-length}

@@ -1,4 +1,5 @@
 -- Limits judged at a token. Assumes nothing.
+use Rattle.cells.specs.Reads.Reads.{read}
 use Rattle.declarations.specs.declared.State.{State as CodeState}
 use Prim.Native.Nat.{ℕ, zero, suc, _+_, _*_, _≤_, _<_}
 use mathlib.Core.Path.{_≡_, refl, sym, ap, ap₂, _∙_}
@@ -20,7 +21,9 @@ use Rattle.declarations.specs.Forms.{judgedIn}
 use Rattle.cells.specs.declared.Part.{Part}
 use Rattle.cells.specs.Answers.{partOf}
 use Rattle.declarations.specs.States.{stateOf, spaceNumber, sectorNumber}
-use Rattle.declarations.proofs.Reading.{part-read, part-failed, within-on, within-failed, never}
+use Rattle.cells.proofs.Laws.{part-read, part-failed}
+use Rattle.cells.proofs.Reading.{never}
+use Rattle.declarations.proofs.Reading.{within-on, within-failed}
 
 -- ---- The numbers
 
@@ -110,7 +113,7 @@ module _ {r : Part} (limit : ℕ) (t : Token) where
   unfolding failAt
   passed-read {n} h e =
       let p = part-read (within limit t (got 0 (t .next))) h e in
-      limit-case limit (λ z. (z, next-is (sym (within-on limit t (got 0 (t .next)) z) ∙ p .1))) (λ z. absurd (never (p .1) (within-failed limit t (got 0 (t .next)) z)))
+      limit-case limit (λ z. (z, next-is (sym (within-on limit t (got 0 (t .next)) z) ∙ p .is))) (λ z. absurd (never (p .is) (within-failed limit t (got 0 (t .next)) z)))
     where
       next-is : {v : ℕ} → _≡_ {A = Got ℕ} (got 0 (t .next)) (got v n) → t .next ≡ n
       next-is q = cc
@@ -150,13 +153,13 @@ module _ {A B : Type 0} {r : Part} (limit : ℕ) (t : Token) (x : Got B) (v : A)
   unfolding failAt
   judged-limit e =
       let p = part-read _ h e in
-      limit-case limit (λ z. z) (λ z. absurd (never (p .1) (within-failed limit t (andThen x (λ _ n. got 0 n)) z)))
+      limit-case limit (λ z. z) (λ z. absurd (never (p .is) (within-failed limit t (andThen x (λ _ n. got 0 n)) z)))
 
   pub judged-read : {n : ℕ} → r ≡ Part.Read n → within limit t (andThen x (λ _ n. got v n)) ≡ got v n
   unfolding andThen
   judged-read {n} e =
       let z = judged-limit e in
-      within-on limit t _ z ∙ go x (part-read _ (h ∙ sym (judged-as limit t x v)) e .1) z
+      within-on limit t _ z ∙ go x (part-read _ (h ∙ sym (judged-as limit t x v)) e .is) z
     where
       go : (x : Got B) {w : A} → within limit t (andThen x (λ _ n. got v n)) ≡ got w n → limit ≡ 0 → andThen x (λ _ n. got v n) ≡ got v n
       go (got b m) p z = let q : got v m ≡ got _ n = sym (within-on limit t (got v m) z) ∙ p in let i : m ≡ n = cc in ap (got v) i

@@ -18,10 +18,10 @@ use Rattle.syntax.specs.Parse.Got.{got}
 use Rattle.syntax.specs.Declarations.{ItemWord, itemWords, parseItem, parseList, parseLocal, parseLocals}
 use Rattle.cells.specs.declared.Part.{Part}
 use Rattle.declarations.specs.declared.Scope as code
-use Rattle.declarations.specs.Reads.{Reads}
+use Rattle.declarations.specs.Declares.{Declares}
 use Rattle.declarations.specs.Scopes.{scopeOf, Scoped}
 use Rattle.declarations.specs.Procedures.{wordOf}
-use Rattle.declarations.proofs.Reading.{Turning, reads-as}
+use Rattle.cells.proofs.Reading.{Turning, reads-as}
 use Rattle.declarations.proofs.Scoping.{more-scoped}
 use Rattle.declarations.proofs.Mapping.{mapped, then-mapped, map-list}
 
@@ -85,6 +85,6 @@ module _ (source : List ℕ) (scope : Scope) (word : ItemWord) (done : List (Nam
       ∙ map-list (λ items. done ++ items) source (parseLocal source (foldl declareItem scope done) word) (parseLocal source scope word) one-more [] at
 
 pub locals-next : (source : List ℕ) (word : ItemWord) (at : ℕ) {s s' s'' : code.Scope} {t t' t'' i i' i'' : List ℕ} {done : List (Name × Item)} {part : Part} → Scoped s t i s' t' i' done
-    → Reads (Scoped s' t' i' s'' t'' i'') part (parseList source (parseLocal source (scopeOf s' t') word) [] at) → Reads (Scoped s t i s'' t'' i'') part (parseList source (parseLocal source (scopeOf s t) word) done at)
+    → Declares (Scoped s' t' i' s'' t'' i'') part (parseList source (parseLocal source (scopeOf s' t') word) [] at) → Declares (Scoped s t i s'' t'' i'') part (parseList source (parseLocal source (scopeOf s t) word) done at)
 locals-next source word at {s} {t = t} {done = done} p r =
-    reads-as (λ items. done ++ items) r refl (list-more source (scopeOf s t) word done at ∙ ap (λ z. mapped (λ items. done ++ items) (parseList source (parseLocal source z word) [] at)) (sym (p .scope))) (λ items d. more-scoped p d)
+    reads-as (λ items. done ++ items) r refl (list-more source (scopeOf s t) word done at ∙ ap (λ z. mapped (λ items. done ++ items) (parseList source (parseLocal source z word) [] at)) (sym (p .scope))) (λ items d. more-scoped p d) (λ w. w)

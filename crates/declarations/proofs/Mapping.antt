@@ -12,7 +12,7 @@ use Rattle.source.specs.Tokens.{tokenAt}
 use Rattle.syntax.specs.Parse.{Got, andThen, is, expect, repeatBy, repeat, parted}
 use Rattle.syntax.specs.Parse.Got.{got, failed}
 use Rattle.syntax.specs.Declarations.{parseList}
-use Rattle.declarations.proofs.Reading.{separated}
+use Rattle.cells.proofs.Reading.{separated}
 
 -- the same result, with what was read put otherwise
 abbrev pub mapped : {A B : Type 0} → (A → B) → Got A → Got B

@@ -1,10 +1,8 @@
 -- New names: the failure's number, then the part. Assumes nothing.
 use Prim.Native.Nat.{ℕ, zero, suc, _*_, _≤_, _<_}
 use mathlib.Core.Path.{_≡_, refl, sym, ap, _∙_}
-use mathlib.Core.Bool.{Bool, true, false, not}
+use mathlib.Core.Bool.{Bool, true, false}
 use mathlib.Core.List.{List}
-use mathlib.Core.Option.{none, some}
-use native.Mathlib.Omega.{arith}
 use borrow.Author.Tests.{eq-eqb, ne-eqb, le-leb, lt-leb, le-ltb, lt-ltb, leb-false}
 use lib.Dec.{eqb, leb}
 use lib.ListN.{length}
@@ -13,55 +11,20 @@ use Rattle.source.specs.Kinds
 use Rattle.source.specs.declared.Token.{Token}
 use Rattle.source.specs.Tokens.{tokenAt, nameOf}
 use Rattle.syntax.specs.Tree.{Name}
-use Rattle.syntax.specs.Symbols.{Level, Entry, Scope, isX, sameLevel}
+use Rattle.syntax.specs.Symbols.{Scope}
 use Rattle.syntax.specs.Parse.{Got, failAt, within, is}
 use Rattle.syntax.specs.Parse.Got.{got}
 use Rattle.syntax.specs.Limits.{wordLimit, nameLimit}
 use Rattle.syntax.specs.Declarations.{ItemWord, isTaken, newName, itemLimit}
 use Rattle.symbols.specs.declared.Packed.{Packed}
 use Rattle.symbols.specs.Packing.{packOf, unpack}
-use Rattle.symbols.specs.Table.{levelOf, heldBy, entryIn}
-use Rattle.symbols.proofs.Entries.{held-all, entries-length, is-taken}
+use Rattle.symbols.specs.Table.{levelOf, heldBy}
+use Rattle.symbols.proofs.Entries.{held-all, entries-length}
 use Rattle.symbols.proofs.Tokens.{name-unpacked}
 use Rattle.cells.specs.declared.Part.{Part}
 use Rattle.cells.specs.Answers.{partOf, gotWith}
 use Rattle.declarations.specs.Scopes.{nameFailure}
-use Rattle.declarations.proofs.Reading.{never}
-
--- ---- Levels
-
-outer-level : (b : ℕ) → eqb b 0 ≡ sameLevel Level.outer (levelOf b)
-unfolding sameLevel levelOf
-outer-level zero = refl
-outer-level (suc b) = ne-eqb (suc b) 0 (λ e. omega arith)
-
-inner-level : (p b : ℕ) → not (eqb b 0) ≡ sameLevel (Level.inner p) (levelOf b)
-unfolding sameLevel levelOf
-inner-level p zero = refl
-inner-level p (suc b) = ap not (ne-eqb (suc b) 0 (λ e. omega arith))
-
-pub same-outer : (a b : ℕ) → a ≡ 0 → eqb b 0 ≡ sameLevel (levelOf a) (levelOf b)
-unfolding levelOf
-same-outer zero b e = outer-level b
-same-outer (suc a) b e = absurd (omega arith)
-
-pub same-inner : (a b : ℕ) → (a ≡ 0 → ⊥) → not (eqb b 0) ≡ sameLevel (levelOf a) (levelOf b)
-unfolding levelOf
-same-inner zero b e = absurd (e refl)
-same-inner (suc a) b e = inner-level a b
-
--- ---- Names that are taken
-
-module _ (scope : Scope) (name : Name) where
-  pub taken-x : isX name ≡ true → true ≡ isTaken scope name
-  taken-x e = sym (is-taken scope name ∙ rw e)
-
-  module _ (e : isX name ≡ false) where
-    pub taken-found : {o : Entry} → entryIn (scope .names) name ≡ some o → sameLevel (o .level) (scope .level) ≡ isTaken scope name
-    taken-found h = sym (is-taken scope name ∙ rw (e, h))
-
-    pub taken-none : entryIn (scope .names) name ≡ none → false ≡ isTaken scope name
-    taken-none h = sym (is-taken scope name ∙ rw (e, h))
+use Rattle.cells.proofs.Reading.{never}
 
 -- ---- A new name's failure
 

@@ -6,6 +6,8 @@ use mathlib.Core.List.{List, [], _∷_, foldl}
 use native.Mathlib.Numerals.{add-one}
 use native.Mathlib.Omega.{arith}
 use lib.ListN.{length, set}
+use Rattle.declarations.specs.Declares.{Gives}
+use Rattle.cells.proofs.Reading.{ended-by}
 use Rattle.source.specs.Kinds
 use Rattle.source.specs.declared.Token.{Token}
 use Rattle.source.specs.Tokens.{tokenAt}
@@ -19,22 +21,19 @@ use Rattle.syntax.specs.Parse.Got.{got, failed}
 use Rattle.syntax.specs.Statements.{parseOutermost}
 use Rattle.syntax.specs.Declarations.{newName, parseLocals}
 use Rattle.symbols.specs.declared.Packed.{Packed}
-use Rattle.symbols.specs.declared.Kind.{Kind}
 use Rattle.symbols.specs.Packing.{unpack}
 use Rattle.symbols.specs.Table as tables
-use Rattle.symbols.proofs.Entries.{unknown-entry, procedure-entry}
 use Rattle.instruction.specs.Code.{JMP}
 use Rattle.emission.specs.Map.{reference}
 use Rattle.emitter.specs.Emitted as emitted
 use Rattle.syntax.specs.Pool.{literalsOf, addedAll}
-use Rattle.emitter.specs.Lays.{Code, Lays}
-use Rattle.expressions.specs.Compiles.{Compiles}
+use Rattle.emitter.specs.Lays.{Lays}
 use Rattle.emitter.specs.Programs.{stored, localValues, emitDeclaration, emitDeclarations}
 use Rattle.emitter.specs.declared.Output.{Output}
 use Rattle.emitter.proofs.Lays.{word, sequence}
 use Rattle.emitter.proofs.Words.{return-word}
 use Rattle.cells.specs.declared.Part.{Part}
-use Rattle.cells.specs.Answers.{partOf, gotWith}
+use Rattle.cells.specs.Answers.{partOf}
 use Rattle.declarations.specs.declared.Ends.{Ends}
 use Rattle.declarations.specs.declared.State.{State}
 use Rattle.declarations.specs.declared.Scope as code
@@ -42,7 +41,8 @@ use Rattle.declarations.specs.Scopes.{scopeOf, Scoped}
 use Rattle.declarations.specs.States.{endsOf, endOf, poolOf, withGlobal, stateOf, Sound, Declared, sectorNumber}
 use Rattle.declarations.specs.Forms.{headingIn, bodyIn, judgedIn, procedureIn}
 use Rattle.declarations.specs.Procedures.{Inner, framed, Framed, basesAt, Bodied}
-use Rattle.declarations.proofs.Reading.{Came, then-got, then-failed, then-inv, part-failed, expect-here, expect-other}
+use Rattle.cells.proofs.Laws.{then-got, then-failed, part-failed}
+use Rattle.declarations.proofs.Reading.{then-inv, expect-here, expect-other}
 use Rattle.declarations.proofs.Naming.{name-room}
 use Rattle.declarations.proofs.Scoping.{held-more, held-kept, take-less}
 use Rattle.declarations.proofs.Limiting.{sector-number, judged-failed, judged-read, judged-limit}
@@ -61,13 +61,9 @@ module _ (source : List ℕ) (scope : Scope) (at : ℕ) where
     unfolding headingIn
     heading-semicolon h = then-got _ e ∙ then-failed _ h
 
-    pub heading-begin : {t : Token} {m : ℕ} {r : Part} → expect Kinds.semicolon source n ≡ got t m → r ≡ partOf (expect Kinds.BEGIN source m) → gotWith r name ≡ headingIn source scope at
-    unfolding headingIn andThen partOf gotWith
-    heading-begin {t} {m} {r} h i = ap (λ x. gotWith x name) i ∙ go (expect Kinds.BEGIN source m) ∙ sym (then-got _ e ∙ then-got _ h)
-      where
-        go : (x : Got Token) → gotWith (partOf x) name ≡ andThen x (λ _ k. got name k)
-        go (got u k) = refl
-        go (failed k a) = refl
+    pub heading-begin : {t : Token} {m : ℕ} {r : Part} → expect Kinds.semicolon source n ≡ got t m → r ≡ partOf (expect Kinds.BEGIN source m) → Gives r name (headingIn source scope at)
+    unfolding headingIn
+    heading-begin {m = m} h i = ended-by name (expect Kinds.BEGIN source m) (then-got _ e ∙ then-got _ h) i refl tt
 
   pub heading-room : {name : Name} {n : ℕ} → headingIn source scope at ≡ got name n → length (scope .names) < 512
   unfolding headingIn
@@ -76,14 +72,14 @@ module _ (source : List ℕ) (scope : Scope) (at : ℕ) where
 -- ---- The frame
 
 -- the code's scope of the locals is the definition's
-inner-scope : (s : State) (t u : List ℕ) (name : Packed) → 3584 ≤ length t → s .names + 1 ≤ 512 → length u ≡ length t → tables.Declared (s .names) t name 0 Kind.Unknown u
+inner-scope : (s : State) (t u : List ℕ) (name : Packed) → 3584 ≤ length t → s .names + 1 ≤ 512 → length u ≡ length t → tables.Declared (s .names) t name 0 Symbol.unknown u
     → scopeOf (record { names = s .names + 1; level = s .words + 1; words = 0; base = s .output .code }) u ≡ localScope (stateOf s t .scope) (unpack name)
-unfolding localScope declare tables.levelOf tables.levelWord
+unfolding localScope declare tables.levelOf tables.atLevel tables.entryOf
 inner-scope s t u name long few same d =
-    let names = held-more (s .names) t u name 0 Kind.Unknown (omega arith) same d ∙ ap (λ x. (unpack name, x) ∷ tables.heldBy (s .names) t) (unknown-entry Level.outer) in
+    let names = held-more (s .names) t u name 0 Symbol.unknown (omega arith) same d in
     ap₂ (λ x y. record { names = x; level = tables.levelOf y; words = 0 }) names (add-one (s .words))
 
-pub inner-is : (s : State) (t u : List ℕ) (name : Packed) → 3584 ≤ length t → s .names + 1 ≤ 512 → length u ≡ length t → tables.Declared (s .names) t name 0 Kind.Unknown u
+pub inner-is : (s : State) (t u : List ℕ) (name : Packed) → 3584 ≤ length t → s .names + 1 ≤ 512 → length u ≡ length t → tables.Declared (s .names) t name 0 Symbol.unknown u
     → Inner s t (unpack name) (record { names = s .names + 1; level = s .words + 1; words = 0; base = s .output .code }) u
 inner-is s t u name long few same d =
     record { scope = inner-scope s t u name long few same d; room = record { long = omega arith; few = few; each = omega arith }; names = refl; base = refl; kept = d .kept }
@@ -122,15 +118,6 @@ module _ {s : State} {t u v image between : List ℕ} (after : List ℕ) {name :
       emitted-is a b c = rw (a, b, c)
 
 -- ---- The body
-
-module _ {A : Type 0} {f : emitted.Bases} {words : A → Code} {a b : emitted.Emitted} {part : Part} {g : Got A} where
-  pub compiled : {n : ℕ} → Compiles f words a b part g → part ≡ Part.Read n → Came (λ t. Lays f a b (words t)) g n
-  compiled {n} (Compiles.read {t} {n = m} i h l) e = let q : m ≡ n = cc in record { tree = t; parsed = i ∙ ap (got t) q; does = l }
-  compiled (Compiles.fails i h) e = absurd (let z : _≡_ {A = ℕ} 0 1 = cc in omega arith)
-
-  pub compiled-failed : {k x : ℕ} → Compiles f words a b part g → part ≡ Part.Failed k x → g ≡ failed k x
-  compiled-failed (Compiles.read i h l) e = absurd (let z : _≡_ {A = ℕ} 0 1 = cc in omega arith)
-  compiled-failed {k} {x} (Compiles.fails {k = l} {at = y} i h) e = let p : l ≡ k = cc in let q : y ≡ x = cc in i ∙ ap₂ (λ u v. failed u v) p q
 
 module _ (source : List ℕ) (scope : Scope) (name : Name) (at : ℕ) where
   pub body-locals : {k a : ℕ} → parseLocals source (localScope scope name) at ≡ failed k a → bodyIn source scope name at ≡ failed k a
@@ -244,14 +231,14 @@ module _ {s : State} {t image v image' : List ℕ} {pool : ℕ} {name : Name} {o
 
   -- declared
   pub procedure-declared : (plan : Ends) (packed : Packed) (w : List ℕ) → name ≡ unpack packed → pool ≡ endOf plan (s .ends .count) → 3584 ≤ length t → length (tables.heldBy (s .names) t) ≡ s .names
-      → length (stateOf s t .scope .names) < 512 → length v ≡ length t → length w ≡ length v → tables.Declared (s .names) v packed 0 (Kind.Procedure (s .words) accumulator) w
+      → length (stateOf s t .scope .names) < 512 → length v ≡ length t → length w ≡ length v → tables.Declared (s .names) v packed 0 (Symbol.procedure (s .words) accumulator) w
       → sectorNumber (output .code + length (emitted.heldBy (output .pool))) (s .ends .count) (s .array) ≡ 0
       → Declared (endOf plan) s t image (withGlobal s output (s .array)) w image' (Declaration.procedure name accumulator (inside .0) (inside .1) ∷ [])
-  unfolding emitDeclarations emitDeclaration states.step declare wordsTaken tables.levelWord
+  unfolding emitDeclarations emitDeclaration states.step declare wordsTaken tables.levelOf tables.atLevel tables.entryOf
   procedure-declared plan packed w same poolIs long held few kept keeps d z =
       let x = procedure-exact z in
-      let names = held-more (s .names) v w packed 0 (Kind.Procedure (s .words) accumulator) (omega arith) keeps d
-      ∙ ap₂ (λ a b. (unpack packed, a) ∷ b) (procedure-entry Level.outer (s .words) accumulator) (held-kept (s .names) (s .names) t v (omega arith) (omega arith) kept (p .kept))
+      let names = held-more (s .names) v w packed 0 (Symbol.procedure (s .words) accumulator) (omega arith) keeps d
+      ∙ ap (λ b. (unpack packed, record { level = Level.outer; symbol = Symbol.procedure (s .words) accumulator }) ∷ b) (held-kept (s .names) (s .names) t v (omega arith) (omega arith) kept (p .kept))
       ∙ ap (λ a. (a, record { level = Level.outer; symbol = Symbol.procedure (s .words) accumulator }) ∷ tables.heldBy (s .names) t) (sym same) in
       let code = x .code ∙ place in
       let at = poolIs ∙ ap (endOf plan) (sym ends) in

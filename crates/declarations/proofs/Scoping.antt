@@ -1,12 +1,13 @@
 -- Items declared and laid, one after another. Assumes nothing.
-use Prim.Native.Nat.{ℕ, zero, suc, _+_, _*_, _≤_, _<_}
+use Prim.Native.Nat.{ℕ, suc, _+_, _*_, _≤_, _<_}
 use mathlib.Core.Path.{_≡_, refl, sym, ap, ap₂, _∙_}
 use mathlib.Core.List.{List, [], _∷_, _++_, foldl, foldl-append, append-assoc, append-nil}
 use native.Mathlib.Omega.{arith}
 use lib.ListN.{length, set, take, length-append}
 use lib.Seq.{take-take}
+use Rattle.cells.specs.Reads.Reads.{read}
 use Rattle.syntax.specs.Tree.{Name, Item}
-use Rattle.syntax.specs.Symbols.{Scope, wordsTaken, itemSymbol, declare, declareItem}
+use Rattle.syntax.specs.Symbols.{Symbol, Scope, wordsTaken, itemSymbol, declare, declareItem}
 use Rattle.source.specs.Kinds
 use Rattle.source.specs.declared.Token.{Token}
 use Rattle.source.specs.Tokens.{tokenAt}
@@ -15,17 +16,17 @@ use Rattle.syntax.specs.Parse.Got.{got, failed}
 use Rattle.syntax.specs.Cells.{parseConstant}
 use Rattle.syntax.specs.Declarations.{ItemWord, newName, itemLimit, parseValue, itemFrom, parseItem, parseLocal}
 use Rattle.symbols.specs.declared.Packed.{Packed}
-use Rattle.symbols.specs.declared.Kind.{Kind}
 use Rattle.symbols.specs.Packing.{unpack}
-use Rattle.symbols.specs.Table.{levelOf, levelWord, entryOf, heldBy, Declared, itemKind}
-use Rattle.symbols.proofs.Entries.{item-entry, held-all, entries-kept}
+use Rattle.symbols.specs.Table.{levelOf, entryOf, heldBy, Declared}
+use Rattle.symbols.proofs.Entries.{item-level, held-all, entries-kept}
 use Rattle.emitter.specs.Programs.{stored, itemValues, localValues}
 use Rattle.cells.specs.declared.Part.{Part}
-use Rattle.cells.specs.Answers.{gotWith}
 use Rattle.declarations.specs.declared.Scope as code
-use Rattle.declarations.specs.Reads.{Reads}
+use Rattle.declarations.specs.Declares.{Declares, Gives}
 use Rattle.declarations.specs.Scopes.{scopeOf, Room, Scoped}
-use Rattle.declarations.proofs.Reading.{then-got, then-failed, then-inv, map-then, reads-as}
+use Rattle.cells.proofs.Laws.{then-got, then-failed}
+use Rattle.cells.proofs.Reading.{reads-as, then-then}
+use Rattle.declarations.proofs.Reading.{then-inv}
 use Rattle.declarations.proofs.Naming.{name-room, limit-same}
 
 -- ---- Lists
@@ -64,15 +65,10 @@ fold-words scope (x ∷ xs) =
 
 -- ---- Entries
 
-pub level-back : (n : ℕ) → levelWord (levelOf n) ≡ n
-unfolding levelWord levelOf
-level-back zero = refl
-level-back (suc p) = refl
-
-pub held-more : (n : ℕ) (t u : List ℕ) (name : Packed) (level : ℕ) (kind : Kind) → 7 * n + 7 ≤ length t → length u ≡ length t → Declared n t name level kind u
-    → heldBy (n + 1) u ≡ (unpack name, entryOf level kind) ∷ heldBy n t
-held-more n t u name level kind room long d =
-    held-all (n + 1) u (omega arith) ∙ d .newest (omega arith) ∙ ap (λ l. (unpack name, entryOf level kind) ∷ l) (sym (held-all n t (omega arith)))
+pub held-more : (n : ℕ) (t u : List ℕ) (name : Packed) (level : ℕ) (symbol : Symbol) → 7 * n + 7 ≤ length t → length u ≡ length t → Declared n t name level symbol u
+    → heldBy (n + 1) u ≡ (unpack name, entryOf level symbol) ∷ heldBy n t
+held-more n t u name level symbol room long d =
+    held-all (n + 1) u (omega arith) ∙ d .newest (omega arith) ∙ ap (λ l. (unpack name, entryOf level symbol) ∷ l) (sym (held-all n t (omega arith)))
 
 -- the entries below a place that is kept
 pub held-kept : (n m : ℕ) (t u : List ℕ) → n ≤ m → 7 * n ≤ length t → length u ≡ length t → take (7 * m) u ≡ take (7 * m) t → heldBy n u ≡ heldBy n t
@@ -81,16 +77,16 @@ held-kept n m t u l room long h = held-all n u (omega arith) ∙ entries-kept n 
 -- ---- One item
 
 module _ (s : code.Scope) (t u image after : List ℕ) (name : Packed) (item : Item) (taken : ℕ) where
-  pub one-scoped : Room s t → s .names < 512 → length u ≡ length t → Declared (s .names) t name (s .level) (itemKind (s .words) item) u
+  pub one-scoped : Room s t → s .names < 512 → length u ≡ length t → Declared (s .names) t name (s .level) (itemSymbol (scopeOf s []) item) u
       → taken ≡ length (itemValues item) → taken ≤ 1 → after ≡ stored image (s .base + s .words) (itemValues item)
       → Scoped s t image (record { names = s .names + 1; level = s .level; words = s .words + taken; base = s .base }) u after ((unpack name, item) ∷ [])
-  unfolding declareItem declare localValues
+  unfolding declareItem declare localValues entryOf
   one-scoped r few long d e small is =
       let S = scopeOf s t in
       let room = r .long in
       let each = r .each in
-      let entry = ap (λ l. entryOf l (itemKind (s .words) item)) (sym (level-back (s .level))) ∙ item-entry S item in
-      let names = held-more (s .names) t u name (s .level) (itemKind (s .words) item) (omega arith) long d ∙ ap (λ x. (unpack name, x) ∷ heldBy (s .names) t) entry in
+      let names = held-more (s .names) t u name (s .level) (itemSymbol (scopeOf s []) item) (omega arith) long d
+      ∙ ap (λ x. (unpack name, record { level = levelOf (s .level); symbol = x }) ∷ heldBy (s .names) t) (item-level (scopeOf s []) S item refl refl) in
       let words : s .words + taken ≡ s .words + wordsTaken (itemSymbol S item) = ap (λ x. s .words + x) (e ∙ sym (item-words S item)) in
       record {
         scope = ap₂ (λ x y. record { names = x; level = levelOf (s .level); words = y }) names words;
@@ -128,10 +124,10 @@ module _ {s s' s'' : code.Scope} {t t' t'' i i' i'' : List ℕ} {xs ys : List (N
 
 -- a local after those that are done
 pub local-next : (source : List ℕ) (word : ItemWord) (at : ℕ) {s s' s'' : code.Scope} {t t' t'' i i' i'' : List ℕ} {done : List (Name × Item)} {part : Part} → Scoped s t i s' t' i' done
-    → Reads (λ one. Scoped s' t' i' s'' t'' i'' (one ∷ [])) part (parseItem source word (scopeOf s' t') at) → Reads (Scoped s t i s'' t'' i'') part (parseLocal source (scopeOf s t) word done at)
+    → Declares (λ one. Scoped s' t' i' s'' t'' i'' (one ∷ [])) part (parseItem source word (scopeOf s' t') at) → Declares (Scoped s t i s'' t'' i'') part (parseLocal source (scopeOf s t) word done at)
 unfolding parseLocal
 local-next source word at {done = done} p r =
-    reads-as (snoc done) r refl (ap (λ z. andThen (parseItem source word z at) (λ item n. got (snoc done item) n)) (sym (p .scope))) (λ one d. more-scoped p d)
+    reads-as (snoc done) r refl (ap (λ z. andThen (parseItem source word z at) (λ item n. got (snoc done item) n)) (sym (p .scope))) (λ one d. more-scoped p d) (λ w. w)
 
 -- ---- A name and its item
 
@@ -149,18 +145,22 @@ module _ (source : List ℕ) (scope : Scope) (at : ℕ) where
 
 -- an item after its name
 module _ (source : List ℕ) (scope : Scope) (name : Name) (at : ℕ) where
-  pub from-integer : gotWith (Part.Read at) (name, Item.integer) ≡ itemFrom source ItemWord.integer scope name at
-  unfolding gotWith itemFrom
-  from-integer = refl
+  pub from-integer : Gives (Part.Read at) (name, Item.integer) (itemFrom source ItemWord.integer scope name at)
+  unfolding itemFrom
+  from-integer = read refl refl refl
 
-  module _ (part : Part) (v : ℕ) (h : gotWith part v ≡ andThen (expect Kinds.equal source at) (λ _ m. parseConstant source (scope .names) m)) where
-    pub from-constant : gotWith part (name, Item.constant v) ≡ itemFrom source ItemWord.constant scope name at
-    unfolding itemFrom parseValue
-    from-constant = map-then (λ x. (name, Item.constant x)) part v (expect Kinds.equal source at) (λ m. parseConstant source (scope .names) m) h
+  module _ {part : Part} {v : ℕ} (r : Gives part v (andThen (expect Kinds.equal source at) (λ _ m. parseConstant source (scope .names) m))) where
+    valued : (item : ℕ → Item) → Gives part (name, item v) (parseValue source scope name item at)
+    unfolding parseValue
+    valued item = reads-as (λ x. (name, item x)) r refl (then-then (expect Kinds.equal source at) (λ _ m. parseConstant source (scope .names) m) (λ x n. got (name, item x) n)) (λ x e. ap (λ y. (name, item y)) e) (λ w. w)
 
-    pub from-compconstant : gotWith part (name, Item.compconstant v) ≡ itemFrom source ItemWord.compconstant scope name at
-    unfolding itemFrom parseValue
-    from-compconstant = map-then (λ x. (name, Item.compconstant x)) part v (expect Kinds.equal source at) (λ m. parseConstant source (scope .names) m) h
+    pub from-constant : Gives part (name, Item.constant v) (itemFrom source ItemWord.constant scope name at)
+    unfolding itemFrom
+    from-constant = valued Item.constant
+
+    pub from-compconstant : Gives part (name, Item.compconstant v) (itemFrom source ItemWord.compconstant scope name at)
+    unfolding itemFrom
+    from-compconstant = valued Item.compconstant
 
 -- an item that was read had a name's room
 pub item-room : (source : List ℕ) (word : ItemWord) (scope : Scope) (at : ℕ) {x : Name × Item} {n : ℕ} → parseItem source word scope at ≡ got x n → length (scope .names) < 512

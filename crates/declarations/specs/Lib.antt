@@ -1,5 +1,5 @@
 -- Declarations, compiled.
-pub mod Reads
+pub mod Declares
 pub mod Scopes
 pub mod States
 pub mod Forms

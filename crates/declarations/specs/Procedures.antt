@@ -3,9 +3,9 @@ use Prim.Native.Nat.{ℕ, suc, _+_, _*_}
 use mathlib.Core.Path.{_≡_}
 use mathlib.Core.List.{List, [], _∷_, foldl}
 use mathlib.Core.Option.{Option, none, some}
-use lib.Dec.{eqb}
+use lib.Dec.{eqb, leb}
 use lib.ListN.{length, set, take}
-use Rattle.source.specs.Bytes.{find, given}
+use Rattle.source.specs.Bytes.{whether, find, given}
 use Rattle.source.specs.Kinds
 use Rattle.syntax.specs.Tree.{Name, Item, Stmts, Program}
 use Rattle.syntax.specs.Symbols.{declareItem, localScope}
@@ -13,7 +13,7 @@ use Rattle.syntax.specs.Emission.{Sym, stmtsWords, _⧺_}
 use Rattle.syntax.specs.State as states
 use Rattle.syntax.specs.Limits.{mainLimit}
 use Rattle.syntax.specs.Parse.{Got, andThen, within, expect}
-use Rattle.syntax.specs.Parse.Got.{got}
+use Rattle.syntax.specs.Parse.Got.{got, failed}
 use Rattle.syntax.specs.Statements.{parseOutermost}
 use Rattle.syntax.specs.Declarations as declarations
 use Rattle.syntax.specs.Program as programs
@@ -27,7 +27,9 @@ use Rattle.declarations.specs.declared.Scope.{Scope}
 use Rattle.declarations.specs.declared.State.{State}
 use Rattle.declarations.specs.declared.ItemWord.{ItemWord}
 use Rattle.declarations.specs.declared.WordFound.{WordFound}
-use Rattle.declarations.specs.Scopes.{treeWord, scopeOf, Room}
+use Rattle.declarations.specs.declared.ProgramAnswer.{ProgramAnswer}
+use Rattle.declarations.specs.Declares.{Declares, Lengths}
+use Rattle.declarations.specs.Scopes.{treeWord, scopeOf, tableWords, Room}
 use Rattle.declarations.specs.States.{endOf, stateOf, Sound}
 
 -- the item word of a kind of token
@@ -99,3 +101,11 @@ pub record Compiled (plan : Ends) (image : List ℕ) (s : State) (output : Outpu
   pub code : output .code ≡ states.finish (states.stateAfter (p .declarations)) (p .main) .code
   pub pool : emitted.heldBy (output .pool) ≡ states.finish (states.stateAfter (p .declarations)) (p .main) .pool
   pub laid : image' ≡ emitProgram (endOf plan) p image
+
+-- THE WHOLE PROGRAM, with the lengths of what was lent on every path. A table that has no room for 512 names is 2 at 0, before anything is read
+unfoldable pub programOn : List ℕ → List ℕ → Got Program
+programOn source table = whether (leb tableWords (length table)) (λ _. programIn source) (λ _. failed 2 0)
+
+abbrev pub Programs : Ends → List ℕ → List ℕ → List ℕ → ProgramAnswer → List ℕ → List ℕ → Type 0
+Programs plan source table image r table' image' =
+    Declares (Compiled plan image (r .state) (r .end) table' image') (r .part) (programOn source table) × Lengths table image table' image'

@@ -40,9 +40,13 @@ nameFailure source scope limit t =
     whether (leb 512 (length (scope .names))) (λ _. 10) λ _. limit)
     (λ _. 6)
 
+-- the words of a table of 512 names
+abbrev pub tableWords : ℕ
+tableWords = 3584
+
 -- the table has room for the 512 names that may be alive, and no more are; each word is a name's
 pub record Room (s : Scope) (table : List ℕ) : Type 0 where
-  pub long : 3584 ≤ length table
+  pub long : tableWords ≤ length table
   pub few : s .names ≤ 512
   pub each : s .words ≤ s .names
 

@@ -12,8 +12,8 @@ ghost use Rattle.syntax.specs.Declarations.{sizeOf};
 ghost use Rattle.symbols.specs.Packing.{unpack};
 ghost use Rattle.symbols.specs.Table as tables;
 ghost use Rattle.emitter.specs.Emitted.{heldBy};
-ghost use Rattle.cells.specs.Answers.{partOf, gotWith};
-ghost use Rattle.declarations.specs.Reads.{Reads};
+ghost use Rattle.cells.specs.Answers.{partOf};
+ghost use Rattle.declarations.specs.Declares.{Declares, Gives};
 ghost use Rattle.declarations.specs.States.{stateOf, Sound, Anyhow, spaceNumber};
 ghost use Rattle.declarations.specs.Forms.{arrayHead, oneArray, arrayIn, arraysIn};
 use crate::Answer;
@@ -38,14 +38,16 @@ use source::kind::LEFT_BRACKET;
 use source::kind::RIGHT_BRACKET;
 use source::kind::SEMICOLON;
 use source::token_at;
-use symbols::Kind;
+use symbols::Array;
+use symbols::Symbol;
 
 // An array word is tagged, so that X is added.
 const TAG: u16 = 0o40000;
 
 // `[` and the constant that gives the size.
 fn bracketed(source: &[u8], table: &[u16], names: usize, at: usize) -> ConstantAnswer
-    ensures { λ r. ⌜ gotWith (r .part) (r .value) ≡ andThen (expectDef kinds.leftBracket (now (source .entry)) at) (λ _ n. parseInRange (now (source .entry)) (tables.heldBy names (now (table .entry))) (λ v. leb (sizeOf v) 8192) n) ⌝ }
+    ensures { λ r. ⌜ Gives (r .part) (r .value)
+        (andThen (expectDef kinds.leftBracket (now (source .entry)) at) (λ _ n. parseInRange (now (source .entry)) (tables.heldBy names (now (table .entry))) (λ v. leb (sizeOf v) 8192) n)) ⌝ }
 {
     let part = expect(source, LEFT_BRACKET, at);
     let Part::Read { next } = part else {
@@ -68,7 +70,8 @@ fn closing(source: &[u8], output: Output, size: u16, array: u16, at: usize) -> P
 // An array up to its `]`.
 fn array_head(source: &[u8], table: &[u16], state: State, at: usize) -> HeadAnswer
     requires { ⌜ Sound state × (3584 ≤ length (now table)) ⌝ }
-    ensures { λ r. ⌜ gotWith (r .part) (unpack (r .name), r .size) ≡ arrayHead (now (source .entry)) (stateOf state (now (table .entry))) at ⌝ }
+    ensures { λ r. ⌜ Gives (r .part) (unpack (r .name), r .size)
+        (arrayHead (now (source .entry)) (stateOf state (now (table .entry))) at) ⌝ }
 {
     let names = state.names;
     let named = global_name(source, table, state, at);
@@ -102,7 +105,7 @@ fn array_head(source: &[u8], table: &[u16], state: State, at: usize) -> HeadAnsw
 // An array, declared and laid.
 fn array(source: &[u8], table: &mut [u16], image: &mut [u16], state: State, at: usize) -> Answer
     requires { ⌜ Sound state × (3584 ≤ length (now table)) ⌝ }
-    ensures { λ r. ⌜ Reads (λ d. Anyhow state (now (table .entry)) (now (image .entry)) (r .state) (now (table .exit)) (now (image .exit)) (d ∷ [])) (r .part) (oneArray (now (source .entry)) (stateOf state (now (table .entry))) at) ⌝ }
+    ensures { λ r. ⌜ Declares (λ d. Anyhow state (now (table .entry)) (now (image .entry)) (r .state) (now (table .exit)) (now (image .exit)) (d ∷ [])) (r .part) (oneArray (now (source .entry)) (stateOf state (now (table .entry))) at) ⌝ }
 {
     let head = array_head(source, table, state, at);
     let part = head.part;
@@ -127,13 +130,15 @@ fn array(source: &[u8], table: &mut [u16], image: &mut [u16], state: State, at: 
     let Part::Read { next: _ } = part else {
         return Answer { part, state };
     };
-    let kind = Kind::Array {
-        number: words,
-        size,
+    let symbol = Symbol::Array {
+        array: Array {
+            number: words,
+            size,
+        },
     };
     Answer {
         part,
-        state: declare_global(table, state, state.output, first, name, kind),
+        state: declare_global(table, state, state.output, first, name, symbol),
     }
 }
 
@@ -146,7 +151,7 @@ fn array_list(
     at: usize,
 ) -> Answer
     requires { ⌜ Sound state × (3584 ≤ length (now table)) ⌝ }
-    ensures { λ r. ⌜ Reads (Anyhow state (now (table .entry)) (now (image .entry)) (r .state) (now (table .exit)) (now (image .exit))) (r .part)
+    ensures { λ r. ⌜ Declares (Anyhow state (now (table .entry)) (now (image .entry)) (r .state) (now (table .exit)) (now (image .exit))) (r .part)
         (parted (now (source .entry)) kinds.comma (arrayIn (now (source .entry)) (stateOf state (now (table .entry))) []) (arrayIn (now (source .entry)) (stateOf state (now (table .entry)))) at) ⌝ }
 {
     let mut current = state;
@@ -181,7 +186,7 @@ pub fn arrays(
     at: usize,
 ) -> Answer
     requires { ⌜ Sound state × (3584 ≤ length (now table)) ⌝ }
-    ensures { λ r. ⌜ Reads (Anyhow state (now (table .entry)) (now (image .entry)) (r .state) (now (table .exit)) (now (image .exit))) (r .part) (arraysIn (now (source .entry)) (stateOf state (now (table .entry))) at) ⌝ }
+    ensures { λ r. ⌜ Declares (Anyhow state (now (table .entry)) (now (image .entry)) (r .state) (now (table .exit)) (now (image .exit))) (r .part) (arraysIn (now (source .entry)) (stateOf state (now (table .entry))) at) ⌝ }
 {
     let list = array_list(source, table, image, state, at);
     let part = list.part;

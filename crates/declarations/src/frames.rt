@@ -5,7 +5,7 @@ ghost use lib.ListN.{length, set};
 ghost use Rattle.syntax.specs.Symbols.{localScope};
 ghost use Rattle.syntax.specs.Declarations.{parseLocals};
 ghost use Rattle.symbols.specs.Packing.{unpack};
-ghost use Rattle.declarations.specs.Reads.{Reads};
+ghost use Rattle.declarations.specs.Declares.{Declares};
 ghost use Rattle.declarations.specs.States.{stateOf, Sound};
 ghost use Rattle.declarations.specs.Procedures.{Inner, Framed};
 use crate::FrameAnswer;
@@ -16,8 +16,8 @@ use crate::lists::locals;
 use cells::Part;
 use emitter::Output;
 use emitter::store;
-use symbols::Kind;
 use symbols::Packed;
+use symbols::Symbol;
 
 // What a procedure's locals are declared under: its name is taken, and not yet known.
 fn local_scope(table: &mut [u16], state: State, name: Packed) -> Scope
@@ -26,7 +26,7 @@ fn local_scope(table: &mut [u16], state: State, name: Packed) -> Scope
 {
     let names = state.names;
     let words = state.words;
-    symbols::declare(table, names, name, 0, Kind::Unknown);
+    symbols::declare(table, names, name, 0, Symbol::Unknown);
     Scope {
         names: names + 1,
         level: words + 1,
@@ -53,7 +53,7 @@ pub fn frame(
     at: usize,
 ) -> FrameAnswer
     requires { ⌜ Sound state × (3584 ≤ length (now table)) × (state .names + 1 ≤ 512) ⌝ }
-    ensures { λ r. ⌜ Reads (Framed state (now (table .entry)) (now (image .entry)) (unpack name) (r .names) (r .link) (r .output) (now (table .exit)) (now (image .exit))) (r .part)
+    ensures { λ r. ⌜ Declares (Framed state (now (table .entry)) (now (image .entry)) (unpack name) (r .names) (r .link) (r .output) (now (table .exit)) (now (image .exit))) (r .part)
         (parseLocals (now (source .entry)) (localScope (stateOf state (now (table .entry)) .scope) (unpack name)) at) ⌝ }
 {
     let inner = local_scope(table, state, name);

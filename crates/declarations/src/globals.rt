@@ -7,8 +7,8 @@ ghost use Rattle.syntax.specs.Limits.{nameLimit};
 ghost use Rattle.syntax.specs.Declarations.{newName};
 ghost use Rattle.symbols.specs.Packing.{unpack};
 ghost use Rattle.symbols.specs.Table as tables;
-ghost use Rattle.cells.specs.Answers.{gotWith};
-ghost use Rattle.declarations.specs.Reads.{Reads};
+ghost use Rattle.symbols.specs.Trees.{treeSymbol};
+ghost use Rattle.declarations.specs.Declares.{Declares, Gives};
 ghost use Rattle.declarations.specs.Scopes.{treeWord};
 ghost use Rattle.declarations.specs.States.{globalScope, withGlobal, stateOf, Sound, Anyhow};
 ghost use Rattle.declarations.specs.Forms as forms;
@@ -22,8 +22,8 @@ use crate::names::name_limit;
 use crate::names::new_name;
 use emitter::Output;
 use emitter::store;
-use symbols::Kind;
 use symbols::Packed;
+use symbols::Symbol;
 
 // The address of the first global's word.
 const FIRST_GLOBAL: u16 = 0o200;
@@ -43,7 +43,8 @@ fn global_scope(state: State) -> Scope
 // The new name of a global that takes a word.
 pub fn global_name(source: &[u8], table: &[u16], state: State, at: usize) -> NameAnswer
     requires { ⌜ 7 * state .names ≤ length (now table) ⌝ }
-    ensures { λ r. ⌜ gotWith (r .part) (unpack (r .name)) ≡ newName (now (source .entry)) (stateOf state (now (table .entry)) .scope) (nameLimit (stateOf state (now (table .entry)) .scope)) (tokenAt (now (source .entry)) at) ⌝ }
+    ensures { λ r. ⌜ Gives (r .part) (unpack (r .name))
+        (newName (now (source .entry)) (stateOf state (now (table .entry)) .scope) (nameLimit (stateOf state (now (table .entry)) .scope)) (tokenAt (now (source .entry)) at)) ⌝ }
 {
     let scope = global_scope(state);
     new_name(source, table, scope, name_limit(scope), at)
@@ -63,14 +64,14 @@ pub fn declare_global(
     output: Output,
     array: u16,
     name: Packed,
-    kind: Kind,
+    symbol: Symbol,
 ) -> State
     requires { ⌜ (state .names ≤ 512) × (state .words ≤ state .names) ⌝ }
-    ensures { λ r. ⌜ tables.Declared (state .names) (now (table .entry)) name 0 kind (now (table .exit)) × (r ≡ withGlobal state output array) ⌝ }
+    ensures { λ r. ⌜ tables.Declared (state .names) (now (table .entry)) name 0 (treeSymbol symbol) (now (table .exit)) × (r ≡ withGlobal state output array) ⌝ }
 {
     let names = state.names;
     let ends = state.ends;
-    symbols::declare(table, names, name, 0, kind);
+    symbols::declare(table, names, name, 0, symbol);
     State {
         names: names + 1,
         words: state.words + 1,
@@ -90,7 +91,7 @@ pub fn global_items(
     at: usize,
 ) -> Answer
     requires { ⌜ Sound state × (3584 ≤ length (now table)) ⌝ }
-    ensures { λ r. ⌜ Reads (Anyhow state (now (table .entry)) (now (image .entry)) (r .state) (now (table .exit)) (now (image .exit))) (r .part) (forms.itemsIn (now (source .entry)) (treeWord word) (stateOf state (now (table .entry))) at) ⌝ }
+    ensures { λ r. ⌜ Declares (Anyhow state (now (table .entry)) (now (image .entry)) (r .state) (now (table .exit)) (now (image .exit))) (r .part) (forms.itemsIn (now (source .entry)) (treeWord word) (stateOf state (now (table .entry))) at) ⌝ }
 {
     let scope = global_scope(state);
     let list = items(source, table, image, scope, word, at);

@@ -5,13 +5,14 @@ ghost use Prim.Native.Nat.{_+_, _*_, _≤_};
 ghost use lib.ListN.{length};
 ghost use Rattle.source.specs.Kinds as kinds;
 ghost use Rattle.syntax.specs.Parse.{andThen, expect as expectDef};
+ghost use Rattle.syntax.specs.Symbols.{itemSymbol};
 ghost use Rattle.syntax.specs.Cells.{parseConstant};
 ghost use Rattle.syntax.specs.Declarations.{itemLimit, itemFrom, parseItem};
 ghost use Rattle.symbols.specs.Packing.{unpack};
-ghost use Rattle.symbols.specs.Table.{heldBy, itemKind};
+ghost use Rattle.symbols.specs.Table.{heldBy};
+ghost use Rattle.symbols.specs.Trees.{treeSymbol};
 ghost use Rattle.emitter.specs.Programs.{stored, itemValues};
-ghost use Rattle.cells.specs.Answers.{gotWith};
-ghost use Rattle.declarations.specs.Reads.{Reads};
+ghost use Rattle.declarations.specs.Declares.{Declares, Gives};
 ghost use Rattle.declarations.specs.Scopes.{scopeOf, treeWord, treeItem, Room, Scoped};
 use crate::Item;
 use crate::ItemAnswer;
@@ -26,8 +27,9 @@ use cells::constant_at;
 use cells::expect;
 use emitter::store;
 use source::kind::EQUAL;
-use symbols::Kind;
 use symbols::Packed;
+use symbols::Symbol;
+use symbols::id_of;
 
 fn item_limit(word: ItemWord, scope: Scope) -> u16
     ensures { λ r. ⌜ r ≡ itemLimit (treeWord word) (scopeOf scope []) ⌝ }
@@ -41,7 +43,8 @@ fn item_limit(word: ItemWord, scope: Scope) -> u16
 
 // `=` and a constant.
 fn value_at(source: &[u8], table: &[u16], names: usize, at: usize) -> ConstantAnswer
-    ensures { λ r. ⌜ gotWith (r .part) (r .value) ≡ andThen (expectDef kinds.equal (now (source .entry)) at) (λ _ n. parseConstant (now (source .entry)) (heldBy names (now (table .entry))) n) ⌝ }
+    ensures { λ r. ⌜ Gives (r .part) (r .value)
+        (andThen (expectDef kinds.equal (now (source .entry)) at) (λ _ n. parseConstant (now (source .entry)) (heldBy names (now (table .entry))) n)) ⌝ }
 {
     let part = expect(source, EQUAL, at);
     let Part::Read { next } = part else {
@@ -59,7 +62,8 @@ fn item_from(
     name: Packed,
     at: usize,
 ) -> ItemAnswer
-    ensures { λ r. ⌜ gotWith (r .part) (unpack (r .name), treeItem (r .item)) ≡ itemFrom (now (source .entry)) (treeWord word) (scopeOf scope (now (table .entry))) (unpack name) at ⌝ }
+    ensures { λ r. ⌜ Gives (r .part) (unpack (r .name), treeItem (r .item))
+        (itemFrom (now (source .entry)) (treeWord word) (scopeOf scope (now (table .entry))) (unpack name) at) ⌝ }
 {
     match word {
         ItemWord::Integer => ItemAnswer {
@@ -93,7 +97,8 @@ fn item_from(
 // A name and its item.
 fn item_at(source: &[u8], table: &[u16], scope: Scope, word: ItemWord, at: usize) -> ItemAnswer
     requires { ⌜ 7 * scope .names ≤ length (now table) ⌝ }
-    ensures { λ r. ⌜ gotWith (r .part) (unpack (r .name), treeItem (r .item)) ≡ parseItem (now (source .entry)) (treeWord word) (scopeOf scope (now (table .entry))) at ⌝ }
+    ensures { λ r. ⌜ Gives (r .part) (unpack (r .name), treeItem (r .item))
+        (parseItem (now (source .entry)) (treeWord word) (scopeOf scope (now (table .entry))) at) ⌝ }
 {
     let named = new_name(source, table, scope, item_limit(word, scope), at);
     let part = named.part;
@@ -108,16 +113,15 @@ fn item_at(source: &[u8], table: &[u16], scope: Scope, word: ItemWord, at: usize
     item_from(source, table, scope, word, name, next)
 }
 
-fn kind_of(item: Item, words: u16) -> Kind
-    ensures { λ r. ⌜ r ≡ itemKind words (treeItem item) ⌝ }
+// What an item's name will stand for.
+fn symbol_of(scope: Scope, item: Item) -> Symbol
+    ensures { λ r. ⌜ treeSymbol r ≡ itemSymbol (scopeOf scope []) (treeItem item) ⌝ }
 {
+    let id = id_of(scope.level, scope.words);
     match item {
-        Item::Integer => Kind::Integer { number: words },
-        Item::Constant { value } => Kind::Constant {
-            number: words,
-            value,
-        },
-        Item::Compconstant { value } => Kind::Compconstant { value },
+        Item::Integer => Symbol::Integer { id },
+        Item::Constant { value } => Symbol::Constant { id, value },
+        Item::Compconstant { value } => Symbol::Compconstant { value },
     }
 }
 
@@ -148,7 +152,7 @@ pub fn item(
     at: usize,
 ) -> ScopeAnswer
     requires { ⌜ Room scope (now table) ⌝ }
-    ensures { λ r. ⌜ Reads (λ one. Scoped scope (now (table .entry)) (now (image .entry)) (r .scope) (now (table .exit)) (now (image .exit)) (one ∷ [])) (r .part) (parseItem (now (source .entry)) (treeWord word) (scopeOf scope (now (table .entry))) at) ⌝ }
+    ensures { λ r. ⌜ Declares (λ one. Scoped scope (now (table .entry)) (now (image .entry)) (r .scope) (now (table .exit)) (now (image .exit)) (one ∷ [])) (r .part) (parseItem (now (source .entry)) (treeWord word) (scopeOf scope (now (table .entry))) at) ⌝ }
 {
     let one = item_at(source, table, scope, word, at);
     let part = one.part;
@@ -164,7 +168,7 @@ pub fn item(
         base,
     } = scope;
     let taken = lay(image, base as usize + words as usize, value);
-    symbols::declare(table, names, name, level, kind_of(value, words));
+    symbols::declare(table, names, name, level, symbol_of(scope, value));
     ScopeAnswer {
         part,
         scope: Scope {

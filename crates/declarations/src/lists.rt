@@ -4,7 +4,7 @@ ghost use mathlib.Core.List.{[]};
 ghost use Rattle.source.specs.Kinds as kinds;
 ghost use Rattle.syntax.specs.Parse.{parted};
 ghost use Rattle.syntax.specs.Declarations.{parseLocal, parseList, parseLocals};
-ghost use Rattle.declarations.specs.Reads.{Reads};
+ghost use Rattle.declarations.specs.Declares.{Declares};
 ghost use Rattle.declarations.specs.Scopes.{scopeOf, treeWord, Room, Scoped};
 ghost use Rattle.declarations.specs.Procedures.{wordOf, treeFound};
 use crate::ItemWord;
@@ -31,7 +31,7 @@ fn item_list(
     at: usize,
 ) -> ScopeAnswer
     requires { ⌜ Room scope (now table) ⌝ }
-    ensures { λ r. ⌜ Reads (Scoped scope (now (table .entry)) (now (image .entry)) (r .scope) (now (table .exit)) (now (image .exit))) (r .part)
+    ensures { λ r. ⌜ Declares (Scoped scope (now (table .entry)) (now (image .entry)) (r .scope) (now (table .exit)) (now (image .exit))) (r .part)
         (parted (now (source .entry)) kinds.comma (parseLocal (now (source .entry)) (scopeOf scope (now (table .entry))) (treeWord word) []) (parseLocal (now (source .entry)) (scopeOf scope (now (table .entry))) (treeWord word)) at) ⌝ }
 {
     let mut current = scope;
@@ -67,7 +67,7 @@ pub fn items(
     at: usize,
 ) -> ScopeAnswer
     requires { ⌜ Room scope (now table) ⌝ }
-    ensures { λ r. ⌜ Reads (Scoped scope (now (table .entry)) (now (image .entry)) (r .scope) (now (table .exit)) (now (image .exit))) (r .part)
+    ensures { λ r. ⌜ Declares (Scoped scope (now (table .entry)) (now (image .entry)) (r .scope) (now (table .exit)) (now (image .exit))) (r .part)
         (parseList (now (source .entry)) (parseLocal (now (source .entry)) (scopeOf scope (now (table .entry))) (treeWord word)) [] at) ⌝ }
 {
     let list = item_list(source, table, image, scope, word, at);
@@ -113,7 +113,7 @@ pub fn locals(
     at: usize,
 ) -> ScopeAnswer
     requires { ⌜ Room scope (now table) ⌝ }
-    ensures { λ r. ⌜ Reads (Scoped scope (now (table .entry)) (now (image .entry)) (r .scope) (now (table .exit)) (now (image .exit))) (r .part) (parseLocals (now (source .entry)) (scopeOf scope (now (table .entry))) at) ⌝ }
+    ensures { λ r. ⌜ Declares (Scoped scope (now (table .entry)) (now (image .entry)) (r .scope) (now (table .exit)) (now (image .exit))) (r .part) (parseLocals (now (source .entry)) (scopeOf scope (now (table .entry))) at) ⌝ }
 {
     let mut current = scope;
     let mut from = at;

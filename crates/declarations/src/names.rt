@@ -6,12 +6,11 @@ ghost use lib.ListN.{length};
 ghost use Rattle.source.specs.Tokens.{tokenAt};
 ghost use Rattle.syntax.specs.Parse.{within};
 ghost use Rattle.syntax.specs.Parse.Got.{got};
-ghost use Rattle.syntax.specs.Symbols.{sameLevel};
 ghost use Rattle.syntax.specs.Limits.{nameLimit};
-ghost use Rattle.syntax.specs.Declarations.{isTaken, newName};
+ghost use Rattle.syntax.specs.Declarations.{newName};
 ghost use Rattle.symbols.specs.Packing.{unpack};
-ghost use Rattle.symbols.specs.Table.{levelOf};
-ghost use Rattle.cells.specs.Answers.{partOf, gotWith};
+ghost use Rattle.cells.specs.Answers.{partOf};
+ghost use Rattle.declarations.specs.Declares.{Gives};
 ghost use Rattle.declarations.specs.Scopes.{scopeOf, nameFailure};
 use crate::NameAnswer;
 use crate::Scope;
@@ -21,8 +20,6 @@ use cells::failures;
 use source::Token;
 use source::kind::NAME;
 use source::token_at;
-use symbols::Found;
-use symbols::Packed;
 
 // The words of sector 0 that globals may take.
 const GLOBALS: u16 = 0o600;
@@ -40,26 +37,6 @@ pub fn pass_at(t: Token, number: u16) -> Part
     fail_at(t, number)
 }
 
-fn same_level(one: u16, other: u16) -> bool
-    ensures { λ r. ⌜ r ≡ sameLevel (levelOf one) (levelOf other) ⌝ }
-{
-    if one == 0 { other == 0 } else { other != 0 }
-}
-
-// Whether a name is declared at the scope's level, or X.
-fn is_taken(table: &[u16], scope: Scope, name: Packed) -> bool
-    ensures { λ r. ⌜ r ≡ isTaken (scopeOf scope (now (table .entry))) (unpack name) ⌝ }
-{
-    if symbols::is_x(name) {
-        return true;
-    }
-    let found = symbols::find(table, scope.names, name);
-    match found {
-        Found::At { level, kind: _ } => same_level(level, scope.level),
-        Found::Nothing => false,
-    }
-}
-
 // A new name's failure, with the limit of its word, or 0.
 fn name_failure(source: &[u8], table: &[u16], scope: Scope, limit: u16, at: usize) -> u16
     requires { ⌜ 7 * scope .names ≤ length (now table) ⌝ }
@@ -69,7 +46,7 @@ fn name_failure(source: &[u8], table: &[u16], scope: Scope, limit: u16, at: usiz
     if t.kind != NAME {
         return failures::NOT_ALLOWED;
     }
-    if is_taken(table, scope, symbols::pack(source, t)) {
+    if symbols::is_taken(table, scope.names, symbols::pack(source, t), scope.level) {
         return failures::NAME_TAKEN;
     }
     if LIVE_NAMES <= scope.names {
@@ -81,7 +58,8 @@ fn name_failure(source: &[u8], table: &[u16], scope: Scope, limit: u16, at: usiz
 // A new name, with the limit of its word.
 pub fn new_name(source: &[u8], table: &[u16], scope: Scope, limit: u16, at: usize) -> NameAnswer
     requires { ⌜ 7 * scope .names ≤ length (now table) ⌝ }
-    ensures { λ r. ⌜ gotWith (r .part) (unpack (r .name)) ≡ newName (now (source .entry)) (scopeOf scope (now (table .entry))) limit (tokenAt (now (source .entry)) at) ⌝ }
+    ensures { λ r. ⌜ Gives (r .part) (unpack (r .name))
+        (newName (now (source .entry)) (scopeOf scope (now (table .entry))) limit (tokenAt (now (source .entry)) at)) ⌝ }
 {
     let t = token_at(source, at);
     let name = symbols::pack(source, t);

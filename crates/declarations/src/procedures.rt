@@ -3,8 +3,7 @@ ghost use mathlib.Core.Path.{_≡_};
 ghost use Prim.Native.Nat.{_+_, _≤_};
 ghost use lib.ListN.{length};
 ghost use Rattle.symbols.specs.Packing.{unpack};
-ghost use Rattle.cells.specs.Answers.{gotWith};
-ghost use Rattle.declarations.specs.Reads.{Reads};
+ghost use Rattle.declarations.specs.Declares.{Declares, Gives};
 ghost use Rattle.declarations.specs.States.{endOf, stateOf, Sound, Declared};
 ghost use Rattle.declarations.specs.Forms.{headingIn, bodyIn, procedureIn, accumulatorIn};
 ghost use Rattle.declarations.specs.Procedures.{Bodied};
@@ -25,13 +24,14 @@ use source::kind::BEGIN;
 use source::kind::PROCEDURE;
 use source::kind::SEMICOLON;
 use statements::statements;
-use symbols::Kind;
 use symbols::Packed;
+use symbols::Symbol;
 
 // A procedure up to its `.BEGIN`.
 fn heading(source: &[u8], table: &[u16], state: State, at: usize) -> NameAnswer
     requires { ⌜ Sound state × (3584 ≤ length (now table)) ⌝ }
-    ensures { λ r. ⌜ gotWith (r .part) (unpack (r .name)) ≡ headingIn (now (source .entry)) (stateOf state (now (table .entry)) .scope) at ⌝ }
+    ensures { λ r. ⌜ Gives (r .part) (unpack (r .name))
+        (headingIn (now (source .entry)) (stateOf state (now (table .entry)) .scope) at) ⌝ }
 {
     let named = global_name(source, table, state, at);
     let part = named.part;
@@ -60,7 +60,7 @@ fn body(
     at: usize,
 ) -> expressions::Answer
     requires { ⌜ Sound state × (3584 ≤ length (now table)) × (state .names + 1 ≤ 512) ⌝ }
-    ensures { λ r. ⌜ Reads (Bodied state (now (table .entry)) (now (image .entry)) pool (unpack name) (r .output) (now (table .exit)) (now (image .exit))) (r .part)
+    ensures { λ r. ⌜ Declares (Bodied state (now (table .entry)) (now (image .entry)) pool (unpack name) (r .output) (now (table .exit)) (now (image .exit))) (r .part)
         (bodyIn (now (source .entry)) (stateOf state (now (table .entry)) .scope) (unpack name) at) ⌝ }
 {
     let before = frame(source, table, image, state, name, at);
@@ -98,7 +98,7 @@ pub fn procedure(
     at: usize,
 ) -> Answer
     requires { ⌜ Sound state × (3584 ≤ length (now table)) ⌝ }
-    ensures { λ r. ⌜ Reads (Declared (endOf plan) state (now (table .entry)) (now (image .entry)) (r .state) (now (table .exit)) (now (image .exit))) (r .part) (procedureIn (now (source .entry)) (stateOf state (now (table .entry))) accumulator at) ⌝ }
+    ensures { λ r. ⌜ Declares (Declared (endOf plan) state (now (table .entry)) (now (image .entry)) (r .state) (now (table .exit)) (now (image .exit))) (r .part) (procedureIn (now (source .entry)) (stateOf state (now (table .entry))) accumulator at) ⌝ }
 {
     let named = heading(source, table, state, at);
     let part = named.part;
@@ -117,13 +117,13 @@ pub fn procedure(
     let Part::Read { next: _ } = part else {
         return Answer { part, state };
     };
-    let kind = Kind::Procedure {
+    let symbol = Symbol::Procedure {
         number: state.words,
         accumulator,
     };
     Answer {
         part,
-        state: declare_global(table, state, output, state.array, name, kind),
+        state: declare_global(table, state, output, state.array, name, symbol),
     }
 }
 
@@ -137,7 +137,7 @@ pub fn accumulator(
     at: usize,
 ) -> Answer
     requires { ⌜ Sound state × (3584 ≤ length (now table)) ⌝ }
-    ensures { λ r. ⌜ Reads (Declared (endOf plan) state (now (table .entry)) (now (image .entry)) (r .state) (now (table .exit)) (now (image .exit))) (r .part) (accumulatorIn (now (source .entry)) (stateOf state (now (table .entry))) at) ⌝ }
+    ensures { λ r. ⌜ Declares (Declared (endOf plan) state (now (table .entry)) (now (image .entry)) (r .state) (now (table .exit)) (now (image .exit))) (r .part) (accumulatorIn (now (source .entry)) (stateOf state (now (table .entry))) at) ⌝ }
 {
     let part = expect(source, PROCEDURE, at);
     let Part::Read { next } = part else {

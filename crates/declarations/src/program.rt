@@ -3,10 +3,10 @@ ghost use mathlib.Core.Path.{_≡_};
 ghost use Prim.Native.Nat.{_≤_};
 ghost use lib.ListN.{length};
 ghost use Rattle.syntax.specs.Declarations.{parseDeclarations};
-ghost use Rattle.declarations.specs.Reads.{Reads};
+ghost use Rattle.declarations.specs.Declares.{Declares};
 ghost use Rattle.declarations.specs.States.{endOf, stateOf, Sound, Declared};
 ghost use Rattle.declarations.specs.Forms as forms;
-ghost use Rattle.declarations.specs.Procedures.{mainIn, Finished, Starts, programIn, Compiled};
+ghost use Rattle.declarations.specs.Procedures.{mainIn, Finished, Starts, programIn, Compiled, Programs};
 use crate::Answer;
 use crate::Ends;
 use crate::ProgramAnswer;
@@ -23,6 +23,7 @@ use crate::sectors::next_sector;
 use crate::sectors::store_pool;
 use cells::Part;
 use cells::expect;
+use cells::failures::SHORT_SCRATCH;
 use emitter::Context;
 use emitter::Output;
 use emitter::emit_generic;
@@ -44,6 +45,9 @@ const FIRST_CODE: u16 = 0o1000;
 
 const FIRST_ARRAY: u16 = 16383;
 
+// The words of a table of 512 names.
+const TABLE_WORDS: usize = 3584;
+
 // Whether a declaration begins with a token of a kind.
 fn begins(kind: u16) -> bool
     ensures { λ r. ⌜ r ≡ forms.begins kind ⌝ }
@@ -61,7 +65,7 @@ fn declaration(
     t: Token,
 ) -> Answer
     requires { ⌜ Sound state × (3584 ≤ length (now table)) ⌝ }
-    ensures { λ r. ⌜ Reads (Declared (endOf plan) state (now (table .entry)) (now (image .entry)) (r .state) (now (table .exit)) (now (image .exit))) (r .part) (forms.declarationIn (now (source .entry)) (stateOf state (now (table .entry))) t) ⌝ }
+    ensures { λ r. ⌜ Declares (Declared (endOf plan) state (now (table .entry)) (now (image .entry)) (r .state) (now (table .exit)) (now (image .exit))) (r .part) (forms.declarationIn (now (source .entry)) (stateOf state (now (table .entry))) t) ⌝ }
 {
     let kind = t.kind;
     let found = item_word(kind);
@@ -90,7 +94,7 @@ fn declarations(
     at: usize,
 ) -> Answer
     requires { ⌜ Starts state × (3584 ≤ length (now table)) ⌝ }
-    ensures { λ r. ⌜ Reads (Declared (endOf plan) state (now (table .entry)) (now (image .entry)) (r .state) (now (table .exit)) (now (image .exit))) (r .part) (parseDeclarations (now (source .entry)) at) ⌝ }
+    ensures { λ r. ⌜ Declares (Declared (endOf plan) state (now (table .entry)) (now (image .entry)) (r .state) (now (table .exit)) (now (image .exit))) (r .part) (parseDeclarations (now (source .entry)) at) ⌝ }
 {
     let mut current = state;
     let mut from = at;
@@ -131,7 +135,7 @@ fn main_body(
     at: usize,
 ) -> expressions::Answer
     requires { ⌜ Sound state × (3584 ≤ length (now table)) ⌝ }
-    ensures { λ r. ⌜ Reads (Finished plan state (now (table .entry)) (now (image .entry)) (r .output) (now (image .exit))) (r .part) (mainIn (now (source .entry)) (stateOf state (now (table .entry))) at) ⌝ }
+    ensures { λ r. ⌜ Declares (Finished plan state (now (table .entry)) (now (image .entry)) (r .output) (now (image .exit))) (r .part) (mainIn (now (source .entry)) (stateOf state (now (table .entry))) at) ⌝ }
 {
     let output = state.output;
     let ends = state.ends;
@@ -177,10 +181,10 @@ fn start_state() -> State
     }
 }
 
-// A program whose length was tested: `.BEGIN`, declarations, the main body. The pools' addresses are the plan's.
-pub fn program(source: &[u8], table: &mut [u16], image: &mut [u16], plan: Ends) -> ProgramAnswer
+// `.BEGIN`, declarations, the main body.
+fn whole(source: &[u8], table: &mut [u16], image: &mut [u16], plan: Ends) -> ProgramAnswer
     requires { ⌜ 3584 ≤ length (now table) ⌝ }
-    ensures { λ r. ⌜ Reads (Compiled plan (now (image .entry)) (r .state) (r .end) (now (table .exit)) (now (image .exit))) (r .part) (programIn (now (source .entry))) ⌝ }
+    ensures { λ r. ⌜ Declares (Compiled plan (now (image .entry)) (r .state) (r .end) (now (table .exit)) (now (image .exit))) (r .part) (programIn (now (source .entry))) ⌝ }
 {
     let state = start_state();
     let end = state.output;
@@ -206,4 +210,20 @@ pub fn program(source: &[u8], table: &mut [u16], image: &mut [u16], plan: Ends) 
         state: after,
         end,
     }
+}
+
+// A program whose length was tested. The pools' addresses are the plan's. A table without room for 512 names is refused, as short scratch is.
+pub fn program(source: &[u8], table: &mut [u16], image: &mut [u16], plan: Ends) -> ProgramAnswer
+    ensures { λ r. ⌜ Programs plan (now (source .entry)) (now (table .entry)) (now (image .entry)) r (now (table .exit)) (now (image .exit)) ⌝ }
+{
+    if table.len() < TABLE_WORDS {
+        let part = Part::Failed {
+            number: SHORT_SCRATCH,
+            at: 0,
+        };
+        let state = start_state();
+        let end = state.output;
+        return ProgramAnswer { part, state, end };
+    }
+    whole(source, table, image, plan)
 }

@@ -6,7 +6,7 @@ ghost use Rattle.syntax.specs.Tree.{Declaration};
 ghost use Rattle.syntax.specs.Limits.{sectorLimit, followLimit};
 ghost use Rattle.emitter.specs.Emitted.{heldBy};
 ghost use Rattle.emitter.specs.Programs.{stored};
-ghost use Rattle.declarations.specs.Reads.{Reads};
+ghost use Rattle.declarations.specs.Declares.{Declares};
 ghost use Rattle.declarations.specs.States.{endOf, stateOf, Sound, Moved};
 ghost use Rattle.declarations.specs.Forms.{judgedIn};
 use crate::Answer;
@@ -93,7 +93,7 @@ fn close(image: &mut [u16], state: State) -> State
 // `.NEXTSECTOR`, judged, and `;`.
 pub fn next_sector(source: &[u8], image: &mut [u16], state: State, t: Token) -> Answer
     requires { ⌜ Sound state ⌝ }
-    ensures { λ r. ⌜ Reads (Moved state (now (image .entry)) (r .state) (now (image .exit))) (r .part) (judgedIn (now (source .entry)) (stateOf state []) Declaration.nextSector t) ⌝ }
+    ensures { λ r. ⌜ Declares (Moved state (now (image .entry)) (r .state) (now (image .exit))) (r .part) (judgedIn (now (source .entry)) (stateOf state []) Declaration.nextSector t) ⌝ }
 {
     let part = judged(source, t, next_limit(state), SEMICOLON);
     let Part::Read { next: _ } = part else {

@@ -8,8 +8,7 @@ ghost use Rattle.syntax.specs.Parse.{parted};
 ghost use Rattle.syntax.specs.Declarations.{parseInitial, parseInitials};
 ghost use Rattle.symbols.specs.Table.{heldBy};
 ghost use Rattle.emitter.specs.Programs.{stored, padded};
-ghost use Rattle.cells.specs.Answers.{gotWith};
-ghost use Rattle.declarations.specs.Reads.{Reads};
+ghost use Rattle.declarations.specs.Declares.{Declares, Gives};
 ghost use Rattle.declarations.specs.Arrays.{initialValue, Filled};
 use crate::ValuesAnswer;
 use cells::ConstantAnswer;
@@ -45,7 +44,8 @@ fn initial_value(
     count: u16,
     at: usize,
 ) -> ConstantAnswer
-    ensures { λ r. ⌜ gotWith (r .part) (r .value) ≡ initialValue (now (source .entry)) (heldBy names (now (table .entry))) size count at ⌝ }
+    ensures { λ r. ⌜ Gives (r .part) (r .value)
+        (initialValue (now (source .entry)) (heldBy names (now (table .entry))) size count at) ⌝ }
 {
     let one = constant_at(source, table, names, at);
     let part = one.part;
@@ -73,7 +73,7 @@ fn values(
     at: usize,
 ) -> ValuesAnswer
     requires { ⌜ first + size ≤ 65536 ⌝ }
-    ensures { λ r. ⌜ Reads (Filled first size (now (image .entry)) (r .count) (now (image .exit))) (r .part)
+    ensures { λ r. ⌜ Declares (Filled first size (now (image .entry)) (r .count) (now (image .exit))) (r .part)
         (parted (now (source .entry)) kinds.comma (parseInitial (now (source .entry)) (heldBy names (now (table .entry))) size []) (parseInitial (now (source .entry)) (heldBy names (now (table .entry))) size) at) ⌝ }
 {
     let mut count: u16 = 0;
@@ -110,7 +110,7 @@ pub fn initials(
     at: usize,
 ) -> Part
     requires { ⌜ first + size ≤ 65536 ⌝ }
-    ensures { λ r. ⌜ Reads (λ vs. now (image .exit) ≡ stored (now (image .entry)) first (padded size vs)) r (parseInitials (now (source .entry)) (heldBy names (now (table .entry))) size at) ⌝ }
+    ensures { λ r. ⌜ Declares (λ vs. now (image .exit) ≡ stored (now (image .entry)) first (padded size vs)) r (parseInitials (now (source .entry)) (heldBy names (now (table .entry))) size at) ⌝ }
 {
     let t = token_at(source, at);
     if t.kind != LEFT_PARENTHESIS {

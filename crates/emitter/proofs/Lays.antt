@@ -5,16 +5,16 @@ use mathlib.Core.Bool.{Bool, true, false}
 use mathlib.Core.List.{List, [], _∷_}
 use native.Mathlib.Omega.{arith}
 use borrow.Author.Tests.{lt-ltb, ltb-true, ltb-false}
-use lib.ListN.{length, set}
-use lib.Seq.{set-set, set-comm}
+use lib.ListN.{length, set, length-set}
+use lib.Seq.{set-set, set-comm, sets, getD-set-other}
 use lib.Dec.{ltb}
 use Rattle.source.specs.Bytes.{whether}
 use Rattle.instruction.specs.Code.{JMP}
 use Rattle.syntax.specs.Emission.{Sym, _⧺_}
 use Rattle.syntax.specs.Pool.{literalOf}
 use Rattle.emission.specs.Map.{reference, wordOf}
-use Rattle.emitter.specs.Emitted.{Emitted, lastAddress, nextAddress, withWord, withLiterals, Bases, emitWord, emitAll}
-use Rattle.emitter.specs.Lays.{Code, Lays, Holed, filled}
+use Rattle.emitter.specs.Emitted.{Emitted, lastAddress, nextAddress, withWord, withLiterals, Bases, frameOf, emitWord, emitAll}
+use Rattle.emitter.specs.Lays.{Code, Kept, Lays, Holed, filled}
 
 -- ---- Runs of words
 
@@ -73,26 +73,57 @@ module _ (f : Bases) where
       let e = next-below (a .code) (omega (arith, d, g, h)) in
       omega (arith, d, e)
 
+-- ---- What is kept
+
+pub kept-here : {a : Emitted} → Kept a a
+kept-here = record { long = refl; below = λ k l. refl; grows = omega arith }
+
+-- no store, at an address further on
+pub kept-upto : {a : Emitted} {end : ℕ} → a .code ≤ end → Kept a (record { image = a .image; code = end; pool = a .pool })
+kept-upto h = record { long = refl; below = λ k l. refl; grows = h }
+
+pub kept-then : {a b c : Emitted} → Kept a b → Kept b c → Kept a c
+kept-then p q =
+    record {
+      long = q .long ∙ p .long;
+      below = λ k h. q .below k (omega (arith, p .grows, h)) ∙ p .below k h;
+      grows = omega (arith, p .grows, q .grows);
+    }
+
+-- a store at the address or above
+pub kept-set : {a b : Emitted} (i v : ℕ) → a .code ≤ i → Kept a b → Kept a (record { image = set (b .image) i v; code = b .code; pool = b .pool })
+kept-set {a} {b} i v h p =
+    record { long = simp length-set (p .long); below = λ k l. getD-set-other (b .image) i k v 0 (λ q. omega (arith, h, l, q)) ∙ p .below k l; grows = p .grows }
+
+pub kept-sets : {a b : Emitted} (i : ℕ) (vs : List ℕ) → a .code ≤ i → Kept a b → Kept a (record { image = sets (b .image) i vs; code = b .code; pool = b .pool })
+kept-sets i [] h p = p
+kept-sets i (v ∷ vs) h p = kept-sets (suc i) vs (omega (arith, h)) (kept-set i v h p)
+
+kept-word : (f : Bases) (a : Emitted) (w : Sym) → Kept a (emitWord f a w)
+unfolding emitWord withWord
+kept-word f a w =
+    let k = kept-set {a = a} {b = a} (a .code) (wordOf (frameOf f (withLiterals (a .pool) (literalOf w []))) w) (omega arith) kept-here in
+    record { long = k .long; below = k .below; grows = next-grows (a .code) }
+
 module _ {f : Bases} where
   -- no words
   pub nothing : {a : Emitted} → Lays f a a (λ _. [])
   unfolding emitAll
-  nothing = record { grows = omega arith; fits = λ _. refl; counts = λ _. omega arith; over = λ h. omega (arith, h) }
+  nothing = record { kept = kept-here; fits = λ _. refl; counts = λ _. omega arith; over = λ h. omega (arith, h) }
 
   -- one word
   pub word : {a : Emitted} (w : Sym) → Lays f a (emitWord f a w) (λ _. w ∷ [])
   unfolding emitAll
   word {a} w =
       let d = word-code f a w in
-      let g = next-grows (a .code) in
       let s = next-step (a .code) in
-      record { grows = omega (arith, d, g); fits = λ _. refl; counts = word-below f a w; over = λ h. omega (arith, d, s, h) }
+      record { kept = kept-word f a w; fits = λ _. refl; counts = word-below f a w; over = λ h. omega (arith, d, s, h) }
 
   -- one part after another
   pub sequence : {a b c : Emitted} {u v : Code} → Lays f a b u → Lays f b c v → Lays f a c (λ at. u at ⧺ v (at + length (u at)))
   sequence {a} {b} {c} {u} {v} p q =
       record {
-        grows = let g = p .grows in let h = q .grows in omega (arith, g, h);
+        kept = kept-then (p .kept) (q .kept);
         fits = λ h. fits-both h (below h);
         counts = λ h. counts-both h (below h);
         over = λ h. over-both h;
@@ -102,7 +133,7 @@ module _ {f : Bases} where
       second = v (a .code + length (u (a .code)))
 
       below : c .code < lastAddress → b .code < lastAddress
-      below h = let g = q .grows in omega (arith, g, h)
+      below h = let g = q .kept .grows in omega (arith, g, h)
 
       total : length (u (a .code) ⧺ second) ≡ length (u (a .code)) + length second
       total = append-length (u (a .code)) second
@@ -128,7 +159,7 @@ module _ {f : Bases} where
   same {a} {b} {u} {v} e p =
       let l = ap length (e (a .code)) in
       record {
-        grows = p .grows;
+        kept = p .kept;
         fits = λ h. p .fits h ∙ ap (emitAll f a) (e (a .code));
         counts = λ h. let n = p .counts h in omega (arith, n, l);
         over = λ h. let n = p .over h in omega (arith, n, l);
@@ -183,7 +214,8 @@ module _ {f : Bases} where
         rest = λ _. [];
         cut = λ at z. refl;
         lays = sequence p (word (Sym.jump 0));
-        place = λ h. let g = word {f = f} {a = b} (Sym.jump 0) .grows in p .counts (omega (arith, g, h));
+        place = λ h. let g = word {f = f} {a = b} (Sym.jump 0) .kept .grows in p .counts (omega (arith, g, h));
+        inside = p .kept .grows;
       }
 
   -- what follows keeps it
@@ -196,13 +228,14 @@ module _ {f : Bases} where
         rest = λ at. p .rest at ⧺ v (at + length (w at 0));
         cut = λ at z. ap (λ x. x ⧺ v (at + length (w at 0))) (p .cut at z) ∙ append-assoc (p .before at) (Sym.jump z ∷ p .rest at) (v (at + length (w at 0)));
         lays = sequence (p .lays) q;
-        place = λ h. let g = q .grows in p .place (omega (arith, g, h));
+        place = λ h. let g = q .kept .grows in p .place (omega (arith, g, h));
+        inside = p .inside;
       }
 
   -- the same words, put otherwise
   pub same-holed : {a b : Emitted} {u v : ℕ → ℕ → List Sym} {hole : ℕ} → ((at z : ℕ) → u at z ≡ v at z) → Holed f a b u hole → Holed f a b v hole
   same-holed e p =
-      record { before = p .before; rest = p .rest; cut = λ at z. sym (e at z) ∙ p .cut at z; lays = same (λ at. e at 0) (p .lays); place = p .place }
+      record { before = p .before; rest = p .rest; cut = λ at z. sym (e at z) ∙ p .cut at z; lays = same (λ at. e at 0) (p .lays); place = p .place; inside = p .inside }
 
   -- after other words
   pub after-words : {a b c : Emitted} {u : Code} {w : ℕ → ℕ → List Sym} {hole : ℕ} → Lays f a b u → Holed f b c w hole
@@ -214,11 +247,12 @@ module _ {f : Bases} where
         cut = λ at z. ap (λ x. u at ⧺ x) (q .cut (at + length (u at)) z) ∙ sym (append-assoc (u at) (q .before (at + length (u at))) (Sym.jump z ∷ q .rest (at + length (u at))));
         lays = sequence p (q .lays);
         place = placed;
+        inside = omega (arith, p .kept .grows, q .inside);
       }
     where
       placed : c .code < lastAddress → hole ≡ a .code + length (u (a .code) ⧺ q .before (a .code + length (u (a .code))))
       placed h =
-          let g = q .lays .grows in
+          let g = q .lays .kept .grows in
           let n = p .counts (omega (arith, g, h)) in
           let m = q .place h in
           let l = ap (λ x. length (q .before x)) n in
@@ -230,7 +264,7 @@ module _ {f : Bases} where
       → Lays f a (filledIn b hole z) (λ at. w at (target at))
   fill {a} {b} {w} {hole} {z} p target e =
       record {
-        grows = p .lays .grows;
+        kept = kept-set hole (reference JMP false z) (p .inside) (p .lays .kept);
         fits = filled-fits;
         counts = λ h. let n = p .lays .counts h in omega (arith, n, long);
         over = λ h. let n = p .lays .over h in omega (arith, n, long);
@@ -256,7 +290,7 @@ module _ {f : Bases} where
           let is = p .lays .fits h ∙ cut-all 0 in
           let all : Lays f first (emitAll f first (Sym.jump 0 ∷ p .rest at)) (λ _. Sym.jump 0 ∷ p .rest at) = words (Sym.jump 0 ∷ p .rest at) in
           let end = ap (λ x. x .code) is in
-          let g = all .grows in
+          let g = all .kept .grows in
           let n = all .counts (omega (arith, end, h)) in
           let m = words {f = f} {a = a} (p .before at) .counts (omega (arith, end, g, h)) in
           let q = p .place h in

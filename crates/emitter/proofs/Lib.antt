@@ -1,5 +1,5 @@
 -- Laws of emission.
 pub mod Pools
-pub mod Words
 pub mod Lays
+pub mod Words
 pub mod Ends

@@ -1,17 +1,20 @@
 -- Each leaf of emission emits a symbolic word. Assumes nothing.
 use Prim.Native.Nat.{ℕ, _+_}
-use mathlib.Core.Path.{_≡_, refl}
+use mathlib.Core.Path.{_≡_, refl, sym, ap, _∙_}
 use mathlib.Core.Bool.{true, false}
 use mathlib.Core.List.{List, [], _∷_}
 use lib.ListN.{getD}
-use Rattle.instruction.specs.Code.{JMP, LDX}
+use Rattle.instruction.specs.Code.{JMP}
 use Rattle.instruction.specs.Table.{tableOf}
 use Rattle.instruction.specs.Encode.{shiftWord}
-use Rattle.syntax.specs.Tree.{Id, Array, Operand, Subscript, Cell}
-use Rattle.syntax.specs.Emission.{Sym, _⧺_, subscriptWords, cellWords}
-use Rattle.syntax.specs.Pool.{literalOf}
+use Rattle.syntax.specs.Tree.{Id, Operand}
+use Rattle.syntax.specs.Emission.{Sym, _⧺_}
+use Rattle.syntax.specs.Pool.{literalOf, literalsOf}
 use Rattle.emission.specs.Map.{addressOf, reference, wordOf}
-use Rattle.emitter.specs.Emitted.{Emitted, Bases, withWord, withLiterals, frameOf, emitWord, emitAll}
+use Rattle.emitter.specs.Emitted.{Emitted, emittedBy, Bases, withWord, withLiterals, frameOf, emitWord, emitAll, pooledAll, Puts, Emits}
+use Rattle.emitter.specs.declared.Pool.{Pool}
+use Rattle.emitter.specs.declared.Output.{Output}
+use Rattle.emitter.proofs.Lays.{emit-append}
 
 -- no order has a literal of its own, and no name's address depends on the pool
 literal-same : (c d : ℕ) (o : Operand) → literalOf (Sym.memory c o) [] ≡ literalOf (Sym.memory d o) []
@@ -53,22 +56,41 @@ module _ (b : Bases) (e : Emitted) where
   unfolding emitWord wordOf
   memory-word code o pool address word held at is = rw (literal-same code 0 o, ← held, ← at, is)
 
--- the words of a cell
-module _ (b : Bases) (e : Emitted) where
-  pub one-word : (w : Sym) → emitAll b e (w ∷ []) ≡ emitWord b e w
-  unfolding emitAll
-  one-word w = refl
+pub memory-literals : (code : ℕ) (o : Operand) → literalOf (Sym.memory 0 o) [] ≡ literalsOf (Sym.memory code o ∷ [])
+unfolding literalsOf
+memory-literals code o = literal-same 0 code o
 
-  pub plain-words : (code : ℕ) (o : Operand) → emitAll b e (cellWords code (Cell.plain o)) ≡ emitWord b e (Sym.memory code o)
-  unfolding cellWords
-  plain-words code o = one-word (Sym.memory code o)
+-- ---- Words after words, with their literals
 
-  pub item-words :
-      (code : ℕ) (a : Array) (o : Operand)
-      → emitAll b e (cellWords code (Cell.item a (Subscript.by o))) ≡ withWord (emitWord b e (Sym.memory LDX o)) (reference code true (0o200 + a .number))
-  unfolding cellWords subscriptWords _⧺_ emitAll
-  item-words code a o = through-word b (emitWord b e (Sym.memory LDX o)) code (a .number)
+pooled-then : (p : Pool) (w : Sym) (vs : List ℕ) → pooledAll (pooledAll p (literalOf w [])) vs ≡ pooledAll p (literalOf w vs)
+unfolding pooledAll literalOf
+pooled-then p (Sym.generic slot) vs = refl
+pooled-then p (Sym.shift kind n) vs = refl
+pooled-then p (Sym.memory code (Operand.named i)) vs = refl
+pooled-then p (Sym.memory code (Operand.literal v)) vs = refl
+pooled-then p (Sym.through code n) vs = refl
+pooled-then p (Sym.jump z) vs = refl
+pooled-then p (Sym.return link) vs = refl
 
-  pub hash-words : (code : ℕ) (a : Array) → emitAll b e (cellWords code (Cell.item a Subscript.hash)) ≡ withWord e (reference code true (0o200 + a .number))
-  unfolding cellWords subscriptWords _⧺_ emitAll
-  hash-words code a = through-word b e code (a .number)
+pooled-append : (p : Pool) (us ws : List Sym) → pooledAll (pooledAll p (literalsOf us)) (literalsOf ws) ≡ pooledAll p (literalsOf (us ⧺ ws))
+unfolding literalsOf _⧺_ pooledAll
+pooled-append p [] ws = refl
+pooled-append p (u ∷ us) ws =
+    ap (λ q. pooledAll q (literalsOf ws)) (sym (pooled-then p u (literalsOf us)))
+    ∙ pooled-append (pooledAll p (literalOf u [])) us ws
+    ∙ pooled-then p u (literalsOf (us ⧺ ws))
+
+pub emits-then : {b : Bases} {o q r : Output} {i j k : List ℕ} {us ws : List Sym} → Emits b o i q j us → Emits b q j r k ws → Emits b o i r k (us ⧺ ws)
+emits-then {b} {o} {i = i} {us = us} {ws = ws} p n =
+    record {
+      emitted = n .emitted ∙ ap (λ e. emitAll b e ws) (p .emitted) ∙ sym (emit-append b (emittedBy o i) us ws);
+      pool = n .pool ∙ ap (λ x. pooledAll x (literalsOf ws)) (p .pool) ∙ pooled-append (o .pool) us ws;
+    }
+
+pub emits-none : {b : Bases} {o : Output} {i : List ℕ} → Emits b o i o i []
+unfolding emitAll pooledAll literalsOf
+emits-none = record { emitted = refl; pool = refl }
+
+pub emits-through : {b : Bases} {o r : Output} {i j : List ℕ} {number : ℕ} (code : ℕ) → Puts o i r j (reference code true (0o200 + number)) → Emits b o i r j (Sym.through code number ∷ [])
+unfolding emitAll literalsOf literalOf pooledAll
+emits-through {b} {o} {i = i} {number = number} code p = record { emitted = p .emitted ∙ sym (through-word b (emittedBy o i) code number); pool = p .pool }

@@ -1,11 +1,12 @@
 -- What is emitted so far, and one word more. Assumes nothing.
-use Prim.Native.Nat.{ℕ, suc}
+use Prim.Native.Nat.{ℕ, suc, _+_}
+use mathlib.Core.Path.{_≡_}
 use mathlib.Core.List.{List, [], _∷_, foldl}
 use lib.Dec.{ltb}
-use lib.ListN.{set, take}
+use lib.ListN.{length, set, take, replicate}
 use Rattle.source.specs.Bytes.{whether}
 use Rattle.syntax.specs.Emission.{Sym}
-use Rattle.syntax.specs.Pool.{literalOf, added}
+use Rattle.syntax.specs.Pool.{literalOf, literalsOf, indexOf, added}
 use Rattle.emission.specs.Map.{Frame, wordOf}
 use Rattle.emitter.specs.declared.Pool.{Pool}
 use Rattle.emitter.specs.declared.Output.{Output}
@@ -63,3 +64,34 @@ emitWord b e w =
 unfoldable pub emitAll : Bases → Emitted → List Sym → Emitted
 emitAll b e [] = e
 emitAll b e (w ∷ ws) = emitAll b (emitWord b e w) ws
+
+-- ---- What is promised of each call: the code's pool word for word too, those past its count as well
+
+unfoldable pub noPool : Pool
+noPool = record { words = replicate 512 0; count = 0 }
+
+-- with a literal, once, as long as there is room
+unfoldable pub pooled : Pool → ℕ → Pool
+pooled p v =
+    let n = length (heldBy p) in
+    whether (ltb (indexOf (heldBy p) v) n) (λ _. p) λ _.
+    whether (ltb n 512) (λ _. record { words = set (p .words) n v; count = n + 1 }) λ _.
+    p
+
+unfoldable pub pooledAll : Pool → List ℕ → Pool
+pooledAll p vs = foldl pooled p vs
+
+-- a pool that takes literals: the words that count, and all of them
+pub record Takes (pool : Pool) (vs : List ℕ) (r : Pool) : Type 0 where
+  pub held : heldBy r ≡ withLiterals (heldBy pool) vs
+  pub whole : r ≡ pooledAll pool vs
+
+-- a word at the next address, and no other change
+pub record Puts (output : Output) (image : List ℕ) (r : Output) (image' : List ℕ) (w : ℕ) : Type 0 where
+  pub emitted : emittedBy r image' ≡ withWord (emittedBy output image) w
+  pub pool : r .pool ≡ output .pool
+
+-- symbolic words, one after another, with their literals
+pub record Emits (b : Bases) (output : Output) (image : List ℕ) (r : Output) (image' : List ℕ) (ws : List Sym) : Type 0 where
+  pub emitted : emittedBy r image' ≡ emitAll b (emittedBy output image) ws
+  pub pool : r .pool ≡ pooledAll (output .pool) (literalsOf ws)

@@ -3,7 +3,7 @@ use Prim.Native.Nat.{ℕ, _+_, _≤_, _<_}
 use mathlib.Core.Path.{_≡_}
 use mathlib.Core.Bool.{false}
 use mathlib.Core.List.{List, _∷_}
-use lib.ListN.{length, set}
+use lib.ListN.{length, getD, set}
 use Rattle.instruction.specs.Code.{JMP}
 use Rattle.syntax.specs.Emission.{Sym, _⧺_}
 use Rattle.emission.specs.Map.{reference}
@@ -13,9 +13,15 @@ use Rattle.emitter.specs.Emitted.{Emitted, lastAddress, Bases, emitAll}
 abbrev pub Code : Type 0
 Code = ℕ → List Sym
 
--- from a to b the words w are emitted. Where b is at the last address, so many words or more were to be emitted, and nothing is said of the image: a sector that is judged then fails
-pub record Lays (f : Bases) (a b : Emitted) (w : Code) : Type 0 where
+-- what every part keeps, read or failed: the image's length and its words below the address where the part began; and the address does not fall
+pub record Kept (a b : Emitted) : Type 0 where
+  pub long : length (b .image) ≡ length (a .image)
+  pub below : (k : ℕ) → k < a .code → getD (b .image) k 0 ≡ getD (a .image) k 0
   pub grows : a .code ≤ b .code
+
+-- from a to b the words w are emitted. Where b is at the last address, so many words or more were to be emitted, and of the image only what is kept is said: a sector that is judged then fails
+pub record Lays (f : Bases) (a b : Emitted) (w : Code) : Type 0 where
+  pub kept : Kept a b
   pub fits : b .code < lastAddress → b ≡ emitAll f a (w (a .code))
   pub counts : b .code < lastAddress → b .code ≡ a .code + length (w (a .code))
   pub over : lastAddress ≤ b .code → lastAddress ≤ a .code + length (w (a .code))
@@ -27,6 +33,7 @@ pub record Holed (f : Bases) (a b : Emitted) (w : ℕ → ℕ → List Sym) (hol
   pub cut : (at z : ℕ) → w at z ≡ before at ⧺ Sym.jump z ∷ rest at
   pub lays : Lays f a b (λ at. w at 0)
   pub place : b .code < lastAddress → hole ≡ a .code + length (before (a .code))
+  pub inside : a .code ≤ hole
 
 -- the jump filled in
 abbrev pub filled : List ℕ → ℕ → ℕ → List ℕ

@@ -1,25 +1,24 @@
 // Emission: words into the lent image, the literal pool by value.
 ghost use mathlib.Core.Path.{_≡_};
 ghost use mathlib.Core.Bool.{true, false};
-ghost use mathlib.Core.List.{[]};
+ghost use mathlib.Core.List.{[], _∷_};
 ghost use Prim.Native.Nat.{_+_, _≤_};
 ghost use lib.ListN.{length, getD, set};
 ghost use Rattle.instruction.specs.Code as codes;
 ghost use Rattle.instruction.specs.Table.{tableOf};
 ghost use Rattle.instruction.specs.Encode.{shiftWord};
-ghost use Rattle.operands.specs.Trees.{treeOperand, treeCell};
-ghost use Rattle.syntax.specs.Emission.{Sym, cellWords};
+ghost use Rattle.symbols.specs.Trees.{treeOperand, treeCell};
+ghost use Rattle.syntax.specs.Emission.{Sym, reachWords, orderWord, cellWords};
 ghost use Rattle.syntax.specs.Pool.{indexOf, literalOf};
 ghost use Rattle.emission.specs.Map as map;
-ghost use Rattle.emitter.specs.Emitted.{heldBy, emittedBy, nextAddress, withWord, withLiteral, withLiterals, basesOf, frameOf, emitWord, emitAll};
+ghost use Rattle.emitter.specs.Emitted.{heldBy, nextAddress, basesOf, frameOf, noPool, Takes, Puts, Emits};
 ghost use Rattle.emitter.specs.Lays.{filled};
 use instruction::code::JMP;
 use instruction::code::LDX;
-use operands::Array;
-use operands::Cell;
-use operands::Id;
-use operands::Operand;
-use operands::Subscript;
+use symbols::Cell;
+use symbols::Id;
+use symbols::Operand;
+use symbols::Subscript;
 
 // The last address that 16 bits hold, far above the memory.
 pub const LAST_ADDRESS: u16 = 65535;
@@ -50,7 +49,7 @@ pub struct Context {
 }
 
 pub fn empty_pool() -> Pool
-    ensures { λ r. ⌜ heldBy r ≡ [] ⌝ }
+    ensures { λ r. ⌜ r ≡ noPool ⌝ }
 {
     Pool {
         words: [0u16; POOL_WORDS],
@@ -88,7 +87,7 @@ fn index_of(pool: Pool, value: u16) -> usize
 
 // The pool with a value, once. A full pool stays as it is.
 fn with_literal(pool: Pool, value: u16) -> Pool
-    ensures { λ r. ⌜ heldBy r ≡ withLiteral (heldBy pool) value ⌝ }
+    ensures { λ r. ⌜ Takes pool (value ∷ []) r ⌝ }
 {
     let count = held_count(pool);
     if index_of(pool, value) < count {
@@ -121,7 +120,7 @@ pub fn store(image: &mut [u16], at: usize, word: u16)
 
 // A word at the next address.
 fn emit_word(image: &mut [u16], output: Output, word: u16) -> Output
-    ensures { λ r. ⌜ emittedBy r (now (image .exit)) ≡ withWord (emittedBy output (now (image .entry))) word ⌝ }
+    ensures { λ r. ⌜ Puts output (now (image .entry)) r (now (image .exit)) word ⌝ }
 {
     let at = output.code;
     let pool = output.pool;
@@ -154,20 +153,20 @@ pub fn generic_word(slot: usize) -> u16
 }
 
 pub fn emit_generic(image: &mut [u16], output: Output, slot: usize) -> Output
-    ensures { λ r. ⌜ emittedBy r (now (image .exit)) ≡ withWord (emittedBy output (now (image .entry))) (getD tableOf slot 0) ⌝ }
+    ensures { λ r. ⌜ Puts output (now (image .entry)) r (now (image .exit)) (getD tableOf slot 0) ⌝ }
 {
     emit_word(image, output, generic_word(slot))
 }
 
 pub fn emit_shift(image: &mut [u16], output: Output, kind: u16, amount: u16) -> Output
-    ensures { λ r. ⌜ emittedBy r (now (image .exit)) ≡ withWord (emittedBy output (now (image .entry))) (shiftWord kind amount) ⌝ }
+    ensures { λ r. ⌜ Puts output (now (image .entry)) r (now (image .exit)) (shiftWord kind amount) ⌝ }
 {
     emit_word(image, output, instruction::encode_shift(kind, amount))
 }
 
 // An order that goes indirectly through a global word.
 pub fn emit_through(image: &mut [u16], output: Output, code: u16, number: u16) -> Output
-    ensures { λ r. ⌜ emittedBy r (now (image .exit)) ≡ withWord (emittedBy output (now (image .entry))) (map.reference code true (0o200 + number)) ⌝ }
+    ensures { λ r. ⌜ Puts output (now (image .entry)) r (now (image .exit)) (map.reference code true (0o200 + number)) ⌝ }
 {
     emit_word(
         image,
@@ -178,14 +177,14 @@ pub fn emit_through(image: &mut [u16], output: Output, code: u16, number: u16) -
 
 // A jump to a code address.
 pub fn emit_jump(image: &mut [u16], output: Output, target: u16) -> Output
-    ensures { λ r. ⌜ emittedBy r (now (image .exit)) ≡ withWord (emittedBy output (now (image .entry))) (map.reference codes.JMP false target) ⌝ }
+    ensures { λ r. ⌜ Puts output (now (image .entry)) r (now (image .exit)) (map.reference codes.JMP false target) ⌝ }
 {
     emit_word(image, output, reference(JMP, false, target as u32))
 }
 
 // A return through a link.
 pub fn emit_return(image: &mut [u16], output: Output, link: u16) -> Output
-    ensures { λ r. ⌜ emittedBy r (now (image .exit)) ≡ withWord (emittedBy output (now (image .entry))) (map.reference codes.JMP true link) ⌝ }
+    ensures { λ r. ⌜ Puts output (now (image .entry)) r (now (image .exit)) (map.reference codes.JMP true link) ⌝ }
 {
     emit_word(image, output, reference(JMP, true, link as u32))
 }
@@ -223,7 +222,7 @@ fn address_of(context: Context, pool: Pool, operand: Operand) -> u32
 
 // The pool with an operand's literal, if it is one.
 fn with_operand(pool: Pool, operand: Operand) -> Pool
-    ensures { λ r. ⌜ heldBy r ≡ withLiterals (heldBy pool) (literalOf (Sym.memory 0 (treeOperand operand)) []) ⌝ }
+    ensures { λ r. ⌜ Takes pool (literalOf (Sym.memory 0 (treeOperand operand)) []) r ⌝ }
 {
     match operand {
         Operand::Named { id: _ } => pool,
@@ -239,7 +238,7 @@ pub fn emit_memory(
     code: u16,
     operand: Operand,
 ) -> Output
-    ensures { λ r. ⌜ emittedBy r (now (image .exit)) ≡ emitWord (basesOf context) (emittedBy output (now (image .entry))) (Sym.memory code (treeOperand operand)) ⌝ }
+    ensures { λ r. ⌜ Emits (basesOf context) output (now (image .entry)) r (now (image .exit)) (Sym.memory code (treeOperand operand) ∷ []) ⌝ }
 {
     let at = output.code;
     let held = output.pool;
@@ -252,28 +251,43 @@ pub fn emit_memory(
     )
 }
 
-// An order on an array element: its subscript to X, unless it is there.
-fn emit_item(
+// What reaches a cell: an array element's subscript to X, unless it is there.
+pub fn emit_reach(image: &mut [u16], context: Context, output: Output, cell: Cell) -> Output
+    ensures { λ r. ⌜ Emits (basesOf context) output (now (image .entry)) r (now (image .exit)) (reachWords (treeCell cell)) ⌝ }
+{
+    let Cell::Item {
+        array: _,
+        subscript,
+    } = cell
+    else {
+        return output;
+    };
+    let Subscript::By { operand } = subscript else {
+        return output;
+    };
+    emit_memory(image, context, output, LDX, operand)
+}
+
+// An order on a cell that is reached.
+pub fn emit_order(
     image: &mut [u16],
     context: Context,
     output: Output,
     code: u16,
-    array: Array,
-    subscript: Subscript,
+    cell: Cell,
 ) -> Output
-    ensures { λ r. ⌜ emittedBy r (now (image .exit)) ≡ emitAll (basesOf context) (emittedBy output (now (image .entry))) (cellWords code (treeCell (Cell.Item array subscript))) ⌝ }
+    ensures { λ r. ⌜ Emits (basesOf context) output (now (image .entry)) r (now (image .exit)) (orderWord code (treeCell cell) ∷ []) ⌝ }
 {
-    let number = array.number;
-    match subscript {
-        Subscript::By { operand } => {
-            let indexed = emit_memory(image, context, output, LDX, operand);
-            emit_through(image, indexed, code, number)
-        }
-        Subscript::Hash => emit_through(image, output, code, number),
+    match cell {
+        Cell::Plain { operand } => emit_memory(image, context, output, code, operand),
+        Cell::Item {
+            array,
+            subscript: _,
+        } => emit_through(image, output, code, array.number),
     }
 }
 
-// An order on a cell.
+// An order on a cell, with what reaches it.
 pub fn emit_cell(
     image: &mut [u16],
     context: Context,
@@ -281,12 +295,8 @@ pub fn emit_cell(
     code: u16,
     cell: Cell,
 ) -> Output
-    ensures { λ r. ⌜ emittedBy r (now (image .exit)) ≡ emitAll (basesOf context) (emittedBy output (now (image .entry))) (cellWords code (treeCell cell)) ⌝ }
+    ensures { λ r. ⌜ Emits (basesOf context) output (now (image .entry)) r (now (image .exit)) (cellWords code (treeCell cell)) ⌝ }
 {
-    match cell {
-        Cell::Plain { operand } => emit_memory(image, context, output, code, operand),
-        Cell::Item { array, subscript } => {
-            emit_item(image, context, output, code, array, subscript)
-        }
-    }
+    let reached = emit_reach(image, context, output, cell);
+    emit_order(image, context, reached, code, cell)
 }

@@ -30,69 +30,54 @@ holed-length p at y z =
     let d = ap length (p .cut at z) ∙ append-length (p .before at) (Sym.jump z ∷ p .rest at) in
     c ∙ sym d
 
-module _ (w : ℕ → ℕ → List Sym) (s : Code) where
-  -- where the first part begins, and where it ends
-  abbrev pub firstAt : ℕ → ℕ
-  firstAt at = at + length (w at 0)
+-- "test, first part, JMP end, second part": the test and the first part are w
+abbrev pub branchWords : (ℕ → ℕ → List Sym) → Code → Code
+branchWords w t at = let next = suc (at + length (w at 0)) in w at next ⧺ Sym.jump (next + length (t next)) ∷ t next
 
-  abbrev pub firstEnd : ℕ → ℕ
-  firstEnd at = firstAt at + length (s (firstAt at))
-
-  -- "test, first part, JMP end, second part"
-  abbrev pub branchWords : Code → Code
-  branchWords t at = w at (suc (firstEnd at)) ⧺ s (firstAt at) ⧺ Sym.jump (suc (firstEnd at) + length (t (suc (firstEnd at)))) ∷ t (suc (firstEnd at))
-
-module _ {f : Bases} {a b c d m : Emitted} {w : ℕ → ℕ → List Sym} {s t : Code} {hole place : ℕ} where
-  pub branches : Holed f a b w hole → Lays f b c s → Holed f c d (λ at z. Sym.jump z ∷ []) place → Lays f (filledIn d hole (d .code)) m t
-      → Lays f a (filledIn m place (m .code)) (branchWords w s t)
-  branches p q j r = same joined (fill whole (λ at. suc (firstEnd w s at) + length (t (suc (firstEnd w s at)))) ended)
+module _ {f : Bases} {a b c m : Emitted} {w : ℕ → ℕ → List Sym} {t : Code} {hole place : ℕ} where
+  pub branches : Holed f a b w hole → Holed f b c (λ at z. Sym.jump z ∷ []) place → Lays f (filledIn c hole (c .code)) m t → Lays f a (filledIn m place (m .code)) (branchWords w t)
+  branches p j r = same joined (fill whole (λ at. next at + length (t (next at))) ended)
     where
-      upto : Code
-      upto at = w at (suc (firstEnd w s at)) ⧺ s (firstAt w s at)
+      next : ℕ → ℕ
+      next at = suc (at + length (w at 0))
 
-      both : Holed f a d (λ at y. (w at y ⧺ s (firstAt w s at)) ⧺ Sym.jump 0 ∷ []) hole
-      both = before-rest (before-rest p q) (j .lays)
+      first : Code
+      first at = w at (next at)
 
-      upto-length : (at : ℕ) → length (upto at) ≡ length (w at 0) + length (s (firstAt w s at))
-      upto-length at =
-          let l = append-length (w at (suc (firstEnd w s at))) (s (firstAt w s at)) in let k = holed-length p at (suc (firstEnd w s at)) 0 in omega (arith, l, k)
+      both : Holed f a c (λ at y. w at y ⧺ Sym.jump 0 ∷ []) hole
+      both = before-rest p (j .lays)
 
-      first-ended : d .code < lastAddress → d .code ≡ suc (firstEnd w s (a .code))
-      first-ended h =
-          let n = both .lays .counts h in
-          let l = append-length (w (a .code) 0 ⧺ s (firstAt w s (a .code))) (Sym.jump 0 ∷ []) in
-          let k = append-length (w (a .code) 0) (s (firstAt w s (a .code))) in
-          omega (arith, n, l, k)
+      first-ended : c .code < lastAddress → c .code ≡ next (a .code)
+      first-ended h = let n = both .lays .counts h in let l = append-length (w (a .code) 0) (Sym.jump 0 ∷ []) in omega (arith, n, l)
 
-      one : Lays f a (filledIn d hole (d .code)) (λ at. upto at ⧺ Sym.jump 0 ∷ [])
-      one = fill both (λ at. suc (firstEnd w s at)) first-ended
+      one : Lays f a (filledIn c hole (c .code)) (λ at. first at ⧺ Sym.jump 0 ∷ [])
+      one = fill both next first-ended
 
-      at-place : d .code < lastAddress → place ≡ a .code + length (upto (a .code))
+      at-place : c .code < lastAddress → place ≡ a .code + length (first (a .code))
       at-place h =
           let e = jump-at j h in
           let g = j .lays .counts h in
           let n = first-ended h in
-          let l = upto-length (a .code) in
+          let l = holed-length p (a .code) (next (a .code)) 0 in
           omega (arith, e, g, n, l)
 
-      second-at : (at : ℕ) → at + length (upto at ⧺ Sym.jump 0 ∷ []) ≡ suc (firstEnd w s at)
-      second-at at = let l = append-length (upto at) (Sym.jump 0 ∷ []) in let k = upto-length at in omega (arith, l, k)
+      second-at : (at : ℕ) → at + length (first at ⧺ Sym.jump 0 ∷ []) ≡ next at
+      second-at at = let l = append-length (first at) (Sym.jump 0 ∷ []) in let k = holed-length p at (next at) 0 in omega (arith, l, k)
 
-      whole : Holed f a m (λ at z. (upto at ⧺ Sym.jump z ∷ []) ⧺ t (at + length (upto at ⧺ Sym.jump 0 ∷ []))) place
-      whole = before-rest (last-jump upto one at-place) r
+      whole : Holed f a m (λ at z. (first at ⧺ Sym.jump z ∷ []) ⧺ t (at + length (first at ⧺ Sym.jump 0 ∷ []))) place
+      whole = before-rest (last-jump first one at-place (omega (arith, p .lays .kept .grows, j .inside))) r
 
-      ended : m .code < lastAddress → m .code ≡ suc (firstEnd w s (a .code)) + length (t (suc (firstEnd w s (a .code))))
+      ended : m .code < lastAddress → m .code ≡ next (a .code) + length (t (next (a .code)))
       ended h =
           let n = whole .lays .counts h in
-          let l = append-length (upto (a .code) ⧺ Sym.jump 0 ∷ []) (t (a .code + length (upto (a .code) ⧺ Sym.jump 0 ∷ []))) in
+          let l = append-length (first (a .code) ⧺ Sym.jump 0 ∷ []) (t (a .code + length (first (a .code) ⧺ Sym.jump 0 ∷ []))) in
           let e = second-at (a .code) in
           let k = ap (λ x. length (t x)) e in
           omega (arith, n, l, e, k)
 
-      joined : (at : ℕ) → (upto at ⧺ Sym.jump (suc (firstEnd w s at) + length (t (suc (firstEnd w s at)))) ∷ []) ⧺ t (at + length (upto at ⧺ Sym.jump 0 ∷ [])) ≡ branchWords w s t at
+      joined : (at : ℕ) → (first at ⧺ Sym.jump (next at + length (t (next at))) ∷ []) ⧺ t (at + length (first at ⧺ Sym.jump 0 ∷ [])) ≡ branchWords w t at
       joined at =
-          let z = suc (firstEnd w s at) + length (t (suc (firstEnd w s at))) in
-          ap (λ x. (upto at ⧺ Sym.jump z ∷ []) ⧺ t x) (second-at at)
-          ∙ append-assoc (upto at) (Sym.jump z ∷ []) (t (suc (firstEnd w s at)))
-          ∙ append-assoc (w at (suc (firstEnd w s at))) (s (firstAt w s at)) ((Sym.jump z ∷ []) ⧺ t (suc (firstEnd w s at)))
-          ∙ ap (λ x. w at (suc (firstEnd w s at)) ⧺ s (firstAt w s at) ⧺ x) (jump-then z (t (suc (firstEnd w s at))))
+          let z = next at + length (t (next at)) in
+          ap (λ x. (first at ⧺ Sym.jump z ∷ []) ⧺ t x) (second-at at)
+          ∙ append-assoc (first at) (Sym.jump z ∷ []) (t (next at))
+          ∙ ap (λ x. first at ⧺ x) (jump-then z (t (next at)))

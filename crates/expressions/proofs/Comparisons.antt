@@ -20,14 +20,15 @@ use Rattle.syntax.specs.Cells.{parseLoneCell}
 use Rattle.syntax.specs.Expressions.{condFrom, parseCond}
 use Rattle.cells.specs.declared.Part.{Part}
 use Rattle.emitter.specs.Emitted.{Emitted, Bases}
-use Rattle.emitter.proofs.Lays.{after-words, same-holed}
+use Rattle.emitter.proofs.Lays.{kept-here, kept-then, after-words, same-holed}
 use Rattle.emitter.proofs.Ends.{expr-end}
 use Rattle.expressions.specs.Words.{numberIn}
 use Rattle.expressions.specs.Chains.{Comparison, condOf, comparisonOf, relationWords, comparisonWords}
 use Rattle.expressions.specs.Compiles.{Compiles, Tests, Compares, AlwaysHoled, Related}
 use Rattle.expressions.proofs.Tables.{as-row, as-some, as-none}
 use Rattle.cells.proofs.Laws.{then-got, then-failed}
-use Rattle.expressions.proofs.Laws.{came, failed-as, test-as}
+use Rattle.cells.specs.Reads.Reads.{read, fails}
+use Rattle.cells.proofs.Reading.{came, pass, reads-on}
 
 pub none-left : (n : ℕ) → n ≤ 0 → 0 ≡ n
 none-left n h = omega (arith, h)
@@ -39,33 +40,33 @@ less-one n m e = omega (arith, e)
 
 -- after the relation
 module _ {f : Bases} {kind : ℕ} {a b : Emitted} {part : Part} {g : Got Cell} (h : Compiles f (λ c _. cellWords CAS c) a b part g) where
-  pub related-failed : {a′ b′ : Emitted} {place k p : ℕ} → part ≡ Part.Failed k p → Compares f kind a′ b′ place part g
-  related-failed q = record { tests = λ i. Tests.fails (then-failed _ (failed-as h q)) q }
+  pub related-failed : {k p : ℕ} → part ≡ Part.Failed k p → Compares f kind a b 0 part g
+  related-failed q = record { tests = λ i. pass _ h q refl (λ w. (w, refl)) }
 
   pub related-read : {c : Emitted} {place n : ℕ} → part ≡ Part.Read n → Related kind b c place → Compares f kind a c place part g
   unfolding comparisonWords
   related-read q k =
-      let v = came h q in record { tests = λ i. Tests.read (then-got _ (v .is)) q (same-holed (λ at z. refl) (after-words (v .lays) (k .holed f i))) }
+      let v = came h q in record { tests = λ i. read (then-got _ (v .is)) q (same-holed (λ at z. refl) (after-words (v .holds) (k .holed f i))) }
 
 module _ (source : List ℕ) (names : Names) (at : ℕ) (t : Token) (e : t ≡ tokenAt source at) {f : Bases} where
   pub relation-compared : {a b : Emitted} {place : ℕ} {part : Part} (n : ℕ) → n ≡ numberIn relations (λ _. 0) (t .kind) → 0 < n
       → Compares f (t .kind) a b place part (parseLoneCell source names (t .next)) → Tests f comparisonWords a b place part (comparisonOf source names (tokenAt source at))
   unfolding comparisonOf
   relation-compared n q h k =
-      let r = as-row relations (λ _. 0) (t .kind) n q h in test-as (k .tests (r .found)) (ap (comparisonOf source names) (sym e) ∙ as-some relations (λ _. 0) t _ _ r)
+      let r = as-row relations (λ _. 0) (t .kind) n q h in reads-on (ap (comparisonOf source names) (sym e) ∙ as-some relations (λ _. 0) t _ _ r) (k .tests (r .found))
 
   pub test-read : {a b : Emitted} {place : ℕ} (n : ℕ) → 0 ≡ numberIn relations (λ _. 0) (t .kind) → n ≡ numberIn tests testSlot (t .kind) → 0 < n
       → AlwaysHoled a b (λ at z. Sym.generic (n - 1) ∷ Sym.jump z ∷ []) place → Tests f comparisonWords a b place (Part.Read (t .next)) (comparisonOf source names (tokenAt source at))
   unfolding comparisonOf comparisonWords
   test-read n z q h k =
       let r = as-row tests testSlot (t .kind) n q h in
-      Tests.read (ap (comparisonOf source names) (sym e) ∙ (as-none relations (λ _. 0) t _ _ z ∙ as-some tests testSlot t _ _ r)) refl
+      read (ap (comparisonOf source names) (sym e) ∙ (as-none relations (λ _. 0) t _ _ z ∙ as-some tests testSlot t _ _ r)) refl
       (same-holed (λ at z. ap (λ x. Sym.generic x ∷ Sym.jump z ∷ []) (less-one n (testSlot (r .row .1)) (r .is))) (k .holed f))
 
-  pub no-comparison : {a b : Emitted} {place : ℕ} → 0 ≡ numberIn relations (λ _. 0) (t .kind) → 0 ≡ numberIn tests testSlot (t .kind)
-      → Tests f comparisonWords a b place (Part.Failed (failureAt t 6) (t .at)) (comparisonOf source names (tokenAt source at))
+  pub no-comparison : {a : Emitted} → 0 ≡ numberIn relations (λ _. 0) (t .kind) → 0 ≡ numberIn tests testSlot (t .kind)
+      → Tests f comparisonWords a a 0 (Part.Failed (failureAt t 6) (t .at)) (comparisonOf source names (tokenAt source at))
   unfolding comparisonOf failAt
-  no-comparison z q = Tests.fails (ap (comparisonOf source names) (sym e) ∙ (as-none relations (λ _. 0) t _ _ z ∙ as-none tests testSlot t _ _ q)) refl
+  no-comparison z q = fails (ap (comparisonOf source names) (sym e) ∙ (as-none relations (λ _. 0) t _ _ z ∙ as-none tests testSlot t _ _ q)) refl (kept-here, refl)
 
 -- ---- A condition
 
@@ -109,17 +110,18 @@ module _ (source : List ℕ) (names : Names) (expr : ℕ → Got Expr) (at : ℕ
   unfolding parseCond condWords
   bare-read n q h k =
       let r = as-row bares bareSlot (t .kind) n q h in
-      Tests.read (ap (λ x. asOneOf bares x (λ b. got (Cond.bare b) (x .next)) (λ _. andThen (expr at) (λ e n. condFrom source names e (tokenAt source n)))) (sym e) ∙ as-some bares bareSlot t _ _ r) refl
+      read (ap (λ x. asOneOf bares x (λ b. got (Cond.bare b) (x .next)) (λ _. andThen (expr at) (λ e n. condFrom source names e (tokenAt source n)))) (sym e) ∙ as-some bares bareSlot t _ _ r) refl
       (same-holed (λ at z. ap (λ x. Sym.generic x ∷ Sym.jump z ∷ []) (less-one n (bareSlot (r .row .1)) (r .is))) (k .holed f))
 
-  pub value-failed : {a b a′ b′ : Emitted} {place k p : ℕ} {part : Part} → 0 ≡ numberIn bares bareSlot (t .kind) → Compiles f exprWords a b part (expr at) → part ≡ Part.Failed k p
-      → Tests f condWords a′ b′ place part (parseCond source names expr at)
-  value-failed z h q = Tests.fails (not-bare source names expr at t e z ∙ then-failed _ (failed-as h q)) q
+  pub value-failed : {a b : Emitted} {k p : ℕ} {part : Part} → 0 ≡ numberIn bares bareSlot (t .kind) → Compiles f exprWords a b part (expr at) → part ≡ Part.Failed k p
+      → Tests f condWords a b 0 part (parseCond source names expr at)
+  value-failed z h q = pass _ h q (not-bare source names expr at t e z) (λ w. (w, refl))
 
   pub value-compared : {a b c : Emitted} {place n : ℕ} {part end : Part} → 0 ≡ numberIn bares bareSlot (t .kind) → Compiles f exprWords a b part (expr at) → part ≡ Part.Read n
       → Tests f comparisonWords b c place end (comparisonOf source names (tokenAt source n)) → Tests f condWords a c place end (parseCond source names expr at)
-  value-compared {n = n} z h q (Tests.read {c} i p l) =
+  value-compared {n = n} z h q (read {t = c} i p l) =
       let v = came h q in
-      Tests.read (not-bare source names expr at t e z ∙ then-got _ (v .is) ∙ cond-from source names (v .tree) (tokenAt source n) ∙ then-got _ i) p (same-holed (cond-words (v .tree) c) (after-words (v .lays) l))
-  value-compared {n = n} z h q (Tests.fails i p) =
-      let v = came h q in Tests.fails (not-bare source names expr at t e z ∙ then-got _ (v .is) ∙ cond-from source names (v .tree) (tokenAt source n) ∙ then-failed _ i) p
+      read (not-bare source names expr at t e z ∙ then-got _ (v .is) ∙ cond-from source names (v .tree) (tokenAt source n) ∙ then-got _ i) p (same-holed (cond-words (v .tree) c) (after-words (v .holds) l))
+  value-compared {n = n} z h q (fails i p w) =
+      let v = came h q in
+      fails (not-bare source names expr at t e z ∙ then-got _ (v .is) ∙ cond-from source names (v .tree) (tokenAt source n) ∙ then-failed _ i) p (kept-then (v .holds .kept) (w .0), w .1)

@@ -7,12 +7,12 @@ use mathlib.Core.Option.{Option, none, some}
 use native.Mathlib.Omega.{arith}
 use borrow.Author.Tests.{eq-eqb, ne-eqb}
 use lib.Dec.{eqb}
-use lib.ListN.{getD}
+use lib.ListN.{length, getD}
 use Rattle.source.specs.Bytes.{whether, find, given}
 use Rattle.source.specs.Kinds
 use Rattle.source.specs.declared.Token.{Token}
 use Rattle.source.specs.Tokens.{tokenAt, failureAt}
-use Rattle.instruction.specs.Code.{LDA, JST}
+use Rattle.instruction.specs.Code.{LDA, JST, JMP}
 use Rattle.instruction.specs.Slot.{CRA}
 use Rattle.instruction.specs.Table.{tableOf}
 use Rattle.syntax.specs.Tree.{Unary, Operation, Cell, Expr, Term, Cond}
@@ -30,33 +30,26 @@ use Rattle.cells.specs.declared.CellStart.{CellStart}
 use Rattle.cells.specs.declared.TermStart.{TermStart}
 use Rattle.cells.specs.Answers.{partOf, treeCellStart, treeTermStart}
 use Rattle.emitter.specs.Emitted.{Emitted, withWord, Bases}
-use Rattle.emitter.specs.Lays.{Code, Lays}
-use Rattle.emitter.proofs.Lays.{append-assoc, filledIn, nothing, sequence, same}
+use Rattle.emitter.specs.Lays.{Lays}
+use Rattle.emitter.proofs.Lays.{append-assoc, append-length, filledIn, kept-here, kept-then, kept-set, nothing, sequence, same, before-rest}
 use Rattle.emitter.proofs.Ends.{expr-end, cond-end}
 use Rattle.expressions.specs.Chains.{unariesOf, unariesNext, elseExpr}
 use Rattle.expressions.specs.Compiles.{Compiles, Tests, Alternates, Always, AlwaysHoled}
 use Rattle.expressions.proofs.Leaves as leaves
 use Rattle.expressions.proofs.UnaryWords.{unaries-parsed}
 use Rattle.expressions.proofs.Branches.{branchWords, branches}
-use Rattle.cells.proofs.Laws.{then-got, then-failed, part-read, part-failed}
-use Rattle.expressions.proofs.Laws.{came, failed-as, came-test, failed-test, as-tree}
+use Rattle.cells.proofs.Laws.{then-got, then-failed, part-read}
+use Rattle.cells.specs.Reads.Reads.{read, fails}
+use Rattle.cells.proofs.Reading.{then-then, came, pass, missing, reads-as, ended-by}
+use Rattle.expressions.proofs.Laws.{as-tree}
 
 -- ---- Brackets and calls
-
--- a token that closes what was read
-closing : {A : Type 0} {f : Bases} {words : A → Code} {a b : Emitted} (t : A) (g : Got Token) (p : Part) → p ≡ partOf g → Lays f a b (words t) → Compiles f words a b p (andThen g (λ _ next. got t next))
-unfolding partOf andThen
-closing t (got k m) p e l = Compiles.read refl e l
-closing t (failed k at) p e l = Compiles.fails refl e
 
 module _ (source : List ℕ) (names : Names) (inner : ℕ → Got Expr) (at : ℕ) {f : Bases} {a b : Emitted} where
   pub bracketed-closed : {part p : Part} {n : ℕ} → Compiles f exprWords a b part (inner at) → part ≡ Part.Read n → p ≡ partOf (expect Kinds.rightParenthesis source n)
       → Compiles f exprWords a b p (parseBracketed source names inner at)
   unfolding parseBracketed
-  bracketed-closed {p = p} {n} h e q = let v = came h e in rw (v .is, then-same _ (v .tree) n) (closing (v .tree) (expect Kinds.rightParenthesis source n) p q (v .lays))
-    where
-      then-same : {A B : Type 0} (h : A → ℕ → Got B) (t : A) (n : ℕ) → andThen (got t n) h ≡ h t n
-      then-same h t n = then-got h refl
+  bracketed-closed {n = n} h e q = let v = came h e in ended-by (v .tree) (expect Kinds.rightParenthesis source n) (then-got _ (v .is)) q (v .holds) (v .holds .kept)
 
 module _ (source : List ℕ) (names : Names) (inner : ℕ → Got Expr) (p at : ℕ) (t : Token) (e : t ≡ tokenAt source at) where
   call-alone : (t .kind ≡ Kinds.leftParenthesis → ⊥) → parseCall source names inner (Term.call p) (Term.callWith p) at ≡ got (Term.call p) at
@@ -70,16 +63,16 @@ module _ (source : List ℕ) (names : Names) (inner : ℕ → Got Expr) (p at : 
   pub called-alone : {f : Bases} {a b : Emitted} → (t .kind ≡ Kinds.leftParenthesis → ⊥) → b ≡ withWord a (reference JST true (0o200 + p))
       → Compiles f termWords a b (Part.Read at) (parseCall source names inner (Term.call p) (Term.callWith p) at)
   unfolding termWords
-  called-alone {f} n h = Compiles.read (call-alone n) refl (leaves.call f p h)
+  called-alone {f} n h = read (call-alone n) refl (leaves.call f p h)
 
-  pub call-failed : {f : Bases} {a b a′ b′ : Emitted} {part : Part} {k q : ℕ} → t .kind ≡ Kinds.leftParenthesis → Compiles f exprWords a b part (parseBracketed source names inner (t .next)) → part ≡ Part.Failed k q
-      → Compiles f termWords a′ b′ part (parseCall source names inner (Term.call p) (Term.callWith p) at)
-  call-failed n h q = Compiles.fails (call-with n ∙ then-failed _ (failed-as h q)) q
+  pub call-failed : {f : Bases} {a b : Emitted} {part : Part} {k q : ℕ} → t .kind ≡ Kinds.leftParenthesis → Compiles f exprWords a b part (parseBracketed source names inner (t .next)) → part ≡ Part.Failed k q
+      → Compiles f termWords a b part (parseCall source names inner (Term.call p) (Term.callWith p) at)
+  call-failed n h q = pass _ h q (call-with n) (λ w. w)
 
   pub called-with : {f : Bases} {a b c : Emitted} {part : Part} {m : ℕ} → t .kind ≡ Kinds.leftParenthesis → Compiles f exprWords a b part (parseBracketed source names inner (t .next)) → part ≡ Part.Read m
       → c ≡ withWord b (reference JST true (0o200 + p)) → Compiles f termWords a c (Part.Read m) (parseCall source names inner (Term.call p) (Term.callWith p) at)
   unfolding termWords
-  called-with {f} n h q i = let v = came h q in Compiles.read (call-with n ∙ then-got _ (v .is)) refl (sequence (v .lays) (leaves.call f p i))
+  called-with {f} n h q i = let v = came h q in read (call-with n ∙ then-got _ (v .is)) refl (sequence (v .holds) (leaves.call f p i))
 
 -- ---- Terms
 
@@ -109,65 +102,64 @@ unfolding exprWords
 chain-words us t os at = append-assoc (termWords t at) (unariesWords us) (operationsWords os)
 
 module _ (source : List ℕ) (names : Names) (inner : ℕ → Got Expr) (at from : ℕ) (parsed : parseUnaries source names at ≡ got (unariesOf source at) from) where
-  pub start-failed : {f : Bases} {a b : Emitted} {part : Part} {k q : ℕ} → termStart source names (tokenAt source from) ≡ failed k q → part ≡ Part.Failed k q
-      → Compiles f exprWords a b part (parseChain source names inner at)
+  pub start-failed : {f : Bases} {a : Emitted} {part : Part} {k q : ℕ} → termStart source names (tokenAt source from) ≡ failed k q → part ≡ Part.Failed k q
+      → Compiles f exprWords a a part (parseChain source names inner at)
   unfolding parseChain
-  start-failed h e = Compiles.fails (then-got _ parsed ∙ then-failed _ h) e
+  start-failed h e = fails (then-got _ parsed ∙ then-failed _ h) e kept-here
 
   module _ {start : expressions.TermStart} {m : ℕ} (h : termStart source names (tokenAt source from) ≡ got start m) where
-    pub term-failed : {f : Bases} {a b a′ b′ : Emitted} {part : Part} {k q : ℕ} → Compiles f termWords a b part (termFrom source names inner start m) → part ≡ Part.Failed k q
-        → Compiles f exprWords a′ b′ part (parseChain source names inner at)
+    pub term-failed : {f : Bases} {a b : Emitted} {part : Part} {k q : ℕ} → Compiles f termWords a b part (termFrom source names inner start m) → part ≡ Part.Failed k q
+        → Compiles f exprWords a b part (parseChain source names inner at)
     unfolding parseChain
-    term-failed t e = Compiles.fails (then-got _ parsed ∙ then-got _ h ∙ then-failed _ (failed-as t e)) e
+    term-failed t e = pass _ t e (then-got _ parsed ∙ then-got _ h) (λ w. w)
 
     pub chained : {f : Bases} {a b c d : Emitted} {part end : Part} {k : ℕ} → Compiles f termWords a b part (termFrom source names inner start m) → part ≡ Part.Read k
         → Always b c (λ _. unariesWords (unariesOf source at)) → Compiles f (λ os _. operationsWords os) c d end (parseOperations source names k) → Compiles f exprWords a d end (parseChain source names inner at)
     unfolding parseChain
-    chained {f} t e u (Compiles.read {t = os} i p l) =
+    chained {f} t e u (read {t = os} i p l) =
         let v = came t e in
-        Compiles.read (then-got _ parsed ∙ then-got _ h ∙ then-got _ (v .is) ∙ then-got _ i) p (same (chain-words (unariesOf source at) (v .tree) os) (sequence (sequence (v .lays) (u .lays f)) l))
-    chained t e u (Compiles.fails i p) = let v = came t e in Compiles.fails (then-got _ parsed ∙ then-got _ h ∙ then-got _ (v .is) ∙ then-failed _ i) p
+        read (then-got _ parsed ∙ then-got _ h ∙ then-got _ (v .is) ∙ then-got _ i) p (same (chain-words (unariesOf source at) (v .tree) os) (sequence (sequence (v .holds) (u .lays f)) l))
+    chained {f} t e u (fails i p w) =
+        let v = came t e in fails (then-got _ parsed ∙ then-got _ h ∙ then-got _ (v .is) ∙ then-failed _ i) p (kept-then (v .holds .kept) (kept-then (u .lays f .kept) w))
 
 -- ---- Choices
 
-then-then : {A B C : Type 0} (g : Got A) (h : A → ℕ → Got B) (k : B → ℕ → Got C) → andThen g (λ x n. andThen (h x n) k) ≡ andThen (andThen g h) k
-unfolding andThen
-then-then (got t n) h k = refl
-then-then (failed m at) h k = refl
-
-choose-words : (c : Cond) (s t : Expr) (at : ℕ) → branchWords (condWords c) (exprWords s) (exprWords t) at ≡ exprWords (Expr.choose c s t) at
+choose-words : (c : Cond) (s t : Expr) (at : ℕ) → branchWords (λ at z. condWords c at z ⧺ exprWords s (at + length (condWords c at 0))) (exprWords t) at ≡ exprWords (Expr.choose c s t) at
 unfolding exprWords
-choose-words c s t at = rw (cond-end c at 0, expr-end s (condEnd c at), expr-end t (suc (exprEnd s (condEnd c at))))
+choose-words c s t at =
+    let n = append-length (condWords c at 0) (exprWords s (condEnd c at)) in
+    let e : at + length (condWords c at 0 ⧺ exprWords s (condEnd c at)) ≡ exprEnd s (condEnd c at) = omega (arith, n, cond-end c at 0, expr-end s (condEnd c at)) in
+    rw (cond-end c at 0, e, expr-end t (suc (exprEnd s (condEnd c at)))) (append-assoc (condWords c at _) (exprWords s (condEnd c at)) _)
 
 module _ (source : List ℕ) (names : Names) (inner : ℕ → Got Expr) (at : ℕ) {f : Bases} where
-  pub test-failed : {a b a′ b′ : Emitted} {hole k q : ℕ} {part : Part} → Tests f condWords a b hole part (parseCond source names inner at) → part ≡ Part.Failed k q
-      → Compiles f exprWords a′ b′ part (parseChoice source names inner at)
+  pub test-failed : {a b : Emitted} {hole k q : ℕ} {part : Part} → Tests f condWords a b hole part (parseCond source names inner at) → part ≡ Part.Failed k q
+      → Compiles f exprWords a b part (parseChoice source names inner at)
   unfolding parseChoice
-  test-failed h e = Compiles.fails (then-failed _ (failed-test h e)) e
+  test-failed h e = pass _ h e refl (λ w. w .0)
 
   module _ {a b : Emitted} {hole n : ℕ} {part : Part} (h : Tests f condWords a b hole part (parseCond source names inner at)) (e : part ≡ Part.Read n) where
-    pub then-missing : {a′ b′ : Emitted} {k q : ℕ} {then : Part} → then ≡ partOf (expect Kinds.THEN source n) → then ≡ Part.Failed k q → Compiles f exprWords a′ b′ then (parseChoice source names inner at)
+    pub then-missing : {k q : ℕ} {then : Part} → then ≡ partOf (expect Kinds.THEN source n) → then ≡ Part.Failed k q → Compiles f exprWords a b then (parseChoice source names inner at)
     unfolding parseChoice
-    then-missing g q = Compiles.fails (then-got _ (came-test h e .is) ∙ then-failed _ (part-failed _ g q)) q
+    then-missing g q = let v = came h e in missing _ _ g q (then-got _ (v .is)) (v .holds .lays .kept)
 
     module _ {m : ℕ} {then : Part} (g : then ≡ partOf (expect Kinds.THEN source n)) (q : then ≡ Part.Read m) where
-      pub first-failed : {b c a′ b′ : Emitted} {k p : ℕ} {one : Part} → Compiles f exprWords b c one (inner m) → one ≡ Part.Failed k p → Compiles f exprWords a′ b′ one (parseChoice source names inner at)
+      pub first-failed : {c : Emitted} {k p : ℕ} {one : Part} → Compiles f exprWords b c one (inner m) → one ≡ Part.Failed k p → Compiles f exprWords a c one (parseChoice source names inner at)
       unfolding parseChoice
-      first-failed i j = Compiles.fails (then-got _ (came-test h e .is) ∙ then-got _ (part-read _ g q .is) ∙ then-failed _ (failed-as i j)) j
+      first-failed i j = let v = came h e in pass _ i j (then-got _ (v .is) ∙ then-got _ (part-read _ g q .is)) (kept-then (v .holds .lays .kept))
 
       pub chosen : {c d x : Emitted} {k place : ℕ} {one two : Part} → Compiles f exprWords b c one (inner m) → one ≡ Part.Read k
           → AlwaysHoled c d (λ at z. Sym.jump z ∷ []) place → Alternates f exprWords (filledIn d hole (d .code)) x place two (elseExpr source inner k)
           → Compiles f exprWords a x two (parseChoice source names inner at)
       unfolding parseChoice elseExpr
-      chosen {k = k} i j l (Alternates.read {t = t} o p r s) =
-          let v = came-test h e in
+      chosen {d = d} {k = k} i j l r =
+          let v = came h e in
           let u = came i j in
-          Compiles.read (then-got _ (v .is) ∙ then-got _ (part-read _ g q .is) ∙ then-got _ (u .is) ∙ then-then (expect Kinds.ELSE source k) (λ _ l. inner l) (λ f next. got (Expr.choose (v .tree) (u .tree) f) next) ∙ then-got _ o) p
-          (rw s (same (choose-words (v .tree) (u .tree) t) (branches (v .holed) (u .lays) (l .holed f) r)))
-      chosen {k = k} i j l (Alternates.fails o p) =
-          let v = came-test h e in
-          let u = came i j in
-          Compiles.fails (then-got _ (v .is) ∙ then-got _ (part-read _ g q .is) ∙ then-got _ (u .is) ∙ then-then (expect Kinds.ELSE source k) (λ _ l. inner l) (λ f next. got (Expr.choose (v .tree) (u .tree) f) next) ∙ then-failed _ o) p
+          let first = before-rest (v .holds) (u .holds) in
+          let lays = before-rest first (l .holed f .lays) in
+          reads-as (Expr.choose (v .tree) (u .tree)) r refl
+          (then-got _ (v .is) ∙ then-got _ (part-read _ g q .is) ∙ then-got _ (u .is) ∙ then-then (expect Kinds.ELSE source k) (λ _ l. inner l) (λ f next. got (Expr.choose (v .tree) (u .tree) f) next))
+          (λ t o. rw (o .is) (same (choose-words (v .tree) (u .tree) t) (branches first (l .holed f) (o .lays))))
+          (kept-then (kept-set hole (reference JMP false (d .code)) (lays .inside) (lays .lays .kept)))
 
 -- what comes after a state that is known otherwise
 pub from-state : {f : Bases} {a a′ x : Emitted} {place : ℕ} {part : Part} {g : Got Expr} → a ≡ a′ → Alternates f exprWords a x place part g → Alternates f exprWords a′ x place part g
@@ -183,7 +175,7 @@ module _ (source : List ℕ) (names : Names) (inner : ℕ → Got Expr) (at : �
 
   pub begins-zero : start ≡ TermStart.Zero → b ≡ withWord a (getD tableOf CRA 0) → Compiles f termWords a b (Part.Read at) (termFrom source names inner (treeTermStart start) at)
   unfolding treeTermStart termFrom
-  begins-zero e h = rw e (Compiles.read refl refl (zero-term h))
+  begins-zero e h = rw e (read refl refl (zero-term h))
 
   pub begins-bracket : {part : Part} → start ≡ TermStart.Bracket → Compiles f exprWords a b part (parseBracketed source names inner at)
       → Compiles f termWords a b part (termFrom source names inner (treeTermStart start) at)
@@ -198,7 +190,7 @@ module _ (source : List ℕ) (names : Names) (inner : ℕ → Got Expr) (at : �
 pub begins-accumulator : (source : List ℕ) (names : Names) (inner : ℕ → Got Expr) (at : ℕ) {f : Bases} {a : Emitted} {start : TermStart} → start ≡ TermStart.Accumulator
     → Compiles f termWords a a (Part.Read at) (termFrom source names inner (treeTermStart start) at)
 unfolding treeTermStart termFrom
-begins-accumulator source names inner at e = rw e (Compiles.read refl refl accumulator-term)
+begins-accumulator source names inner at e = rw e (read refl refl accumulator-term)
 
 -- ---- Expressions
 
@@ -230,11 +222,11 @@ deep-fails source names t = go (eqb (t .kind) Kinds.IF) (find (eqb (t .kind)) un
     go false (some r) g = fails-at t 9
     go false none g = after t g
 
-pub deep-part : (source : List ℕ) (names : Names) (left at : ℕ) {f : Bases} {a b : Emitted} {part : Part} → left ≡ 0 → part ≡ partOf (expressions.tooDeepExpr source names (tokenAt source at))
-    → Compiles f exprWords a b part (parseExpr source names left at)
+pub deep-part : (source : List ℕ) (names : Names) (left at : ℕ) {f : Bases} {a : Emitted} {part : Part} → left ≡ 0 → part ≡ partOf (expressions.tooDeepExpr source names (tokenAt source at))
+    → Compiles f exprWords a a part (parseExpr source names left at)
 unfolding partOf
 deep-part source names left at e q =
-    let d = deep-fails source names (tokenAt source at) in Compiles.fails (too-deep source names left at e ∙ d .is) (q ∙ ap partOf (d .is))
+    let d = deep-fails source names (tokenAt source at) in fails (too-deep source names left at e ∙ d .is) (q ∙ ap partOf (d .is)) kept-here
 
 sub-one : (n : ℕ) → suc n - 1 ≡ n
 sub-one n = omega arith

@@ -76,7 +76,7 @@ module _ {a b c d : Emitted} {past place : ℕ} {image : List ℕ} where
   pub greater : AlwaysHoled a b (λ at z. Sym.jump z ∷ []) past → c ≡ withWord b (getD tableOf NOP 0) → AlwaysHoled c d (λ at z. Sym.jump z ∷ []) place → image ≡ filled (d .image) past (d .code)
       → Related Kinds.greater a (record { image = image; code = d .code; pool = d .pool }) place
   unfolding find relationWords controls controlWords controlWord _⧺_
-  greater h e k i = by-row Kinds.greater Relation.greater refl (λ f. rw i (same-holed (λ at z. refl) (last-jump (λ at. Sym.jump (at + 3) ∷ Sym.generic NOP ∷ []) (filled-past f) (at-place f))))
+  greater h e k i = by-row Kinds.greater Relation.greater refl (λ f. rw i (same-holed (λ at z. refl) (last-jump (λ at. Sym.jump (at + 3) ∷ Sym.generic NOP ∷ []) (filled-past f) (at-place f) (omega (arith, before-last f .lays .kept .grows, k .holed f .inside)))))
     where
       before-last : (f : Bases) → Holed f a c (λ at y. Sym.jump y ∷ Sym.generic NOP ∷ []) past
       before-last f = same-holed (λ at y. refl) (before-rest (h .holed f) (generic f NOP e))
@@ -89,7 +89,7 @@ module _ {a b c d : Emitted} {past place : ℕ} {image : List ℕ} where
 
       at-place : (f : Bases) → d .code < lastAddress → place ≡ a .code + 2
       at-place f l =
-          let g = k .holed f .lays .grows in
+          let g = k .holed f .lays .kept .grows in
           let n = before-last f .lays .counts (omega (arith, g, l)) in
           let first = k .holed f .before (c .code) in
           let size : 1 ≡ length (first ⧺ Sym.jump 0 ∷ k .holed f .rest (c .code)) = ap length (k .holed f .cut (c .code) 0) in

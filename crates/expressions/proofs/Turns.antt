@@ -1,5 +1,5 @@
 -- Operations, one after another. Assumes nothing.
-use Prim.Native.Nat.{ℕ, zero, suc, _-_, _≤_, _<_}
+use Prim.Native.Nat.{ℕ, _-_, _<_}
 use mathlib.Core.Path.{_≡_, refl, sym, ap, _∙_}
 use mathlib.Core.Bool.{Bool, true, false}
 use mathlib.Core.List.{List, [], _∷_}
@@ -11,8 +11,8 @@ use Rattle.source.specs.declared.Token.{Token}
 use Rattle.source.specs.Tokens.{operatorAt}
 use Rattle.syntax.specs.Tree.{Cell, Operator, Shift, Operation}
 use Rattle.syntax.specs.Symbols.{Names}
-use Rattle.syntax.specs.Parse.{Got, andThen, snoc, repeatBy}
-use Rattle.syntax.specs.Parse.Got.{got, failed}
+use Rattle.syntax.specs.Parse.{Got, andThen, snoc}
+use Rattle.syntax.specs.Parse.Got.{got}
 use Rattle.syntax.specs.Words.{operators, shifts}
 use Rattle.syntax.specs.Emission.{Sym, _⧺_, cellWords, operatorCode, shiftKind, operationWords, operationsWords}
 use Rattle.syntax.specs.Cells.{parseInRange, parseCell}
@@ -20,11 +20,12 @@ use Rattle.syntax.specs.Expressions.{operationOf}
 use Rattle.cells.specs.declared.Part.{Part}
 use Rattle.emitter.specs.Emitted.{Emitted, Bases}
 use Rattle.emitter.specs.Lays.{Lays}
-use Rattle.emitter.proofs.Lays.{append-assoc, append-none, sequence, same}
+use Rattle.emitter.proofs.Lays.{append-assoc, append-none, kept-then, sequence, same}
 use Rattle.expressions.specs.Words.{numberIn}
 use Rattle.expressions.specs.Chains.{operationAt}
 use Rattle.expressions.specs.Compiles.{Compiles, Turned}
 use Rattle.expressions.proofs.Tables.{as-row, as-some, as-none}
+use Rattle.cells.proofs.Reading.{then-then, reads-as}
 use Rattle.expressions.proofs.Laws.{as-tree}
 
 -- ---- One operation
@@ -68,17 +69,12 @@ module _ {f : Bases} {a b : Emitted} {part : Part} {g : Option (Got Operation)} 
 
 -- ---- Any operations
 
-then-then : {A B C : Type 0} (g : Got A) (h : A → B) (k : B → C) → andThen (andThen g (λ x n. got (h x) n)) (λ y n. got (k y) n) ≡ andThen g (λ x n. got (k (h x)) n)
-unfolding andThen
-then-then (got t n) h k = refl
-then-then (failed m at) h k = refl
-
 module _ (source : List ℕ) (names : Names) where
-  added : List Operation → Got Operation → Got (List Operation)
+  unfoldable pub added : List Operation → Got Operation → Got (List Operation)
   added done g = andThen g (λ o next. got (snoc done o) next)
 
   one-more : (done : List Operation) (t : Token) → operationOf source names done t ≡ given (operationAt source names t) (λ g. some (added done g)) (λ _. none)
-  unfolding operationOf operationAt added
+  unfolding operationOf operationAt added andThen
   one-more done t = go (find (eqb (t .kind)) operators) (find (eqb (t .kind)) shifts)
     where
       cell : Got Cell
@@ -92,41 +88,27 @@ module _ (source : List ℕ) (names : Names) where
           given s (λ r. some (andThen amount (λ n next. got (snoc done (Operation.shift (r .1) n)) next))) (λ _. none))
           ≡ given (given o (λ r. some (andThen cell (λ c next. got (Operation.binary (r .1) c) next))) (λ _.
           given s (λ r. some (andThen amount (λ n next. got (Operation.shift (r .1) n) next))) (λ _. none))) (λ g. some (added done g)) (λ _. none)
-      go (some r) s = ap some (sym (then-then cell (Operation.binary (r .1)) (snoc done)))
-      go none (some r) = ap some (sym (then-then amount (Operation.shift (r .1)) (snoc done)))
+      go (some r) s = ap some (then-then cell (λ c n. got (Operation.binary (r .1) c) n) (λ o n. got (snoc done o) n))
+      go none (some r) = ap some (then-then amount (λ m n. got (Operation.shift (r .1) m) n) (λ o n. got (snoc done o) n))
       go none none = refl
 
   abbrev pub more : List Operation → ℕ → Option (Got (List Operation))
   more done n = operationOf source names done (operatorAt source n)
 
-  pub ended : (done : List Operation) (i k : ℕ) → k ≤ 0 → repeatBy more k done i ≡ got done i
-  unfolding repeatBy
-  ended done i zero h = refl
-  ended done i (suc k) h = absurd (omega (arith, h))
+  module _ (done : List Operation) (i : ℕ) {t : Token} (e : t ≡ operatorAt source i) where
+    pub more-none : operationAt source names t ≡ none → more done i ≡ none
+    more-none n = rw (← e, one-more done t, n)
 
-  module _ (done : List Operation) (i : ℕ) (t : Token) (e : t ≡ operatorAt source i) where
-    pub stops : (k : ℕ) → operationAt source names t ≡ none → repeatBy more k done i ≡ got done i
-    unfolding repeatBy
-    stops zero n = refl
-    stops (suc k) n = rw (← e, one-more done t, n)
+    pub more-some : {g : Got Operation} → operationAt source names t ≡ some g → more done i ≡ some (added done g)
+    more-some n = rw (← e, one-more done t, n)
 
-    pub goes-on : (k : ℕ) {g : Got Operation} → 0 < k → operationAt source names t ≡ some g → repeatBy more k done i ≡ andThen g (λ o next. repeatBy more (k - 1) (snoc done o) next)
-    unfolding repeatBy added andThen
-    goes-on zero h n = absurd (omega (arith, h))
-    goes-on (suc k) {g} h n = rw (← e, one-more done t, n, less) (go g)
-      where
-        less : suc k - 1 ≡ k
-        less = omega arith
-
-        go : (g : Got Operation) → andThen (andThen g (λ o next. got (snoc done o) next)) (λ longer next. repeatBy more k longer next) ≡ andThen g (λ o next. repeatBy more k (snoc done o) next)
-        go (got o n) = refl
-        go (failed m at) = refl
-
-pub operations-snoc : (os : List Operation) (o : Operation) → operationsWords os ⧺ operationWords o ≡ operationsWords (snoc os o)
+operations-snoc : (os : List Operation) (o : Operation) → operationsWords os ⧺ operationWords o ≡ operationsWords (snoc os o)
 unfolding operationsWords _⧺_
 operations-snoc [] o = sym (append-none (operationWords o))
 operations-snoc (p ∷ os) o = append-assoc (operationWords p) (operationsWords os) (operationWords o) ∙ ap (λ r. operationWords p ⧺ r) (operations-snoc os o)
 
-pub one-operation : {f : Bases} {a b c : Emitted} (os : List Operation) (o : Operation) → Lays f a b (λ _. operationsWords os) → Lays f b c (λ _. operationWords o)
-    → Lays f a c (λ _. operationsWords (snoc os o))
-one-operation os o p q = same (λ at. operations-snoc os o) (sequence p q)
+-- one operation after others
+pub after-others : (source : List ℕ) (names : Names) {f : Bases} {a b c : Emitted} {part : Part} {g : Got Operation} (os : List Operation) → Lays f a b (λ _. operationsWords os)
+    → Compiles f (λ o _. operationWords o) b c part g → Compiles f (λ os _. operationsWords os) a c part (added source names os g)
+unfolding added
+after-others source names os p r = reads-as (snoc os) r refl refl (λ o q. same (λ at. operations-snoc os o) (sequence p q)) (kept-then (p .kept))

@@ -24,7 +24,7 @@ use Rattle.syntax.specs.Pool.{literalOf}
 use Rattle.syntax.specs.Expressions.{parseUnaries}
 use Rattle.emission.specs.Map.{wordOf}
 use Rattle.emitter.specs.Emitted.{Emitted, lastAddress, withWord, withLiterals, Bases, emitWord, emitAll}
-use Rattle.emitter.proofs.Lays.{append-length, emit-append, next-below}
+use Rattle.emitter.proofs.Lays.{append-length, emit-append, next-below, kept-upto, kept-sets}
 use Rattle.expressions.specs.Words.{numberIn, lastSlot}
 use Rattle.expressions.specs.Chains.{unariesBy, unariesOf, unariesNext}
 use Rattle.expressions.specs.Compiles.{Always}
@@ -277,12 +277,12 @@ module _ {source : List ℕ} {t : Token} {n k i : ℕ} (turn : Turn source t n k
 -- ---- What is laid
 
 module _ {a : Emitted} {end : ℕ} (ws : List Sym) (e : end ≡ min lastAddress (a .code + length ws)) (h : a .code ≤ lastAddress) where
-  pub past-end : {image : List ℕ} → end ≡ lastAddress → Always a (record { image = image; code = end; pool = a .pool }) (λ _. ws)
+  pub past-end : end ≡ lastAddress → Always a (record { image = a .image; code = end; pool = a .pool }) (λ _. ws)
   past-end q =
       record {
         lays = λ f.
             record {
-              grows = omega (arith, e, h);
+              kept = kept-upto (omega (arith, e, h));
               fits = λ l. absurd (omega (arith, q, l));
               counts = λ l. absurd (omega (arith, q, l));
               over = λ l. omega (arith, e, l);
@@ -304,7 +304,7 @@ laid {a} {end} {image} us e n i =
     record {
       lays = λ f.
           record {
-            grows = omega (arith, c);
+            kept = rw i (kept-sets (end - length (unariesWords us)) (values (unariesWords us)) (omega (arith, c)) (kept-upto (omega (arith, c))));
             fits = λ l. is-emitted f a us c (omega (arith, l)) i;
             counts = λ l. c;
             over = λ l. omega (arith, c, l);

@@ -1,4 +1,4 @@
--- What compiling a part of the source promises, against what the part is parsed as. Assumes nothing.
+-- What each form promises that is parsed and emitted in one go: `Reads`, with what is emitted. Assumes nothing.
 use Prim.Native.Nat.{ℕ}
 use mathlib.Core.Path.{_≡_}
 use mathlib.Core.Bool.{Bool, true, false}
@@ -6,31 +6,66 @@ use mathlib.Core.List.{List}
 use mathlib.Core.Option.{Option, none, some}
 use lib.Dec.{eqb}
 use Rattle.source.specs.Bytes.{find}
-use Rattle.syntax.specs.Tree.{Cell, Operation, Relation}
+use Rattle.syntax.specs.Tree.{Cell, Operation, Relation, Expr, Term}
+use Rattle.syntax.specs.Symbols.{Names}
 use Rattle.syntax.specs.Parse.{Got, andThen}
-use Rattle.syntax.specs.Parse.Got.{got, failed}
+use Rattle.syntax.specs.Parse.Got.{got}
 use Rattle.syntax.specs.Words.{relations}
 use Rattle.syntax.specs.Emission.{Sym, operationWords}
+use Rattle.syntax.specs.Expressions.{TermStart, termFrom, parseCall, parseExpr}
+use Rattle.symbols.specs.Table.{heldBy}
 use Rattle.cells.specs.declared.Part.{Part}
-use Rattle.emitter.specs.Emitted.{Emitted, Bases}
-use Rattle.emitter.specs.Lays.{Code, Lays, Holed, filled}
+use Rattle.cells.specs.Reads.{Reads}
+use Rattle.instruction.specs.Code.{JMP}
+use Rattle.emission.specs.Map.{reference}
+use Rattle.emitter.specs.declared.Output.{Output}
+use Rattle.emitter.specs.declared.Context.{Context}
+use Rattle.emitter.specs.Emitted.{Emitted, emittedBy, Bases, basesOf, Puts}
+use Rattle.emitter.specs.Lays.{Code, Kept, Lays, Holed, filled}
+use Rattle.expressions.specs.declared.Answer.{Answer}
+use Rattle.expressions.specs.declared.Tested.{Tested}
+use Rattle.expressions.specs.declared.Jumping.{Jumping}
 use Rattle.expressions.specs.Chains.{Comparison, relationWords, comparisonWords}
 
--- the part was parsed as t up to n: n is answered, and from a to b the words of t are emitted. Or a failure is answered with its number and offset; nothing is said of b then
-pub data Compiles {A : Type 0} (f : Bases) (words : A → Code) (a b : Emitted) (part : Part) (g : Got A) : Type 0 where
-  read : {t : A} {n : ℕ} → g ≡ got t n → part ≡ Part.Read n → Lays f a b (words t) → Compiles f words a b part g
-  fails : {k at : ℕ} → g ≡ failed k at → part ≡ Part.Failed k at → Compiles f words a b part g
+-- a part whose words are emitted from a to b
+abbrev pub Compiles : {A : Type 0} → Bases → (A → Code) → Emitted → Emitted → Part → Got A → Type 0
+Compiles f words a b part g = Reads (λ t. Lays f a b (words t)) (Kept a b) part g
 
--- the same of a condition, whose jump where it fails is filled in later
-pub data Tests {A : Type 0} (f : Bases) (words : A → ℕ → ℕ → List Sym) (a b : Emitted) (hole : ℕ) (part : Part) (g : Got A) : Type 0 where
-  read : {c : A} {n : ℕ} → g ≡ got c n → part ≡ Part.Read n → Holed f a b (words c) hole → Tests f words a b hole part g
-  fails : {k at : ℕ} → g ≡ failed k at → part ≡ Part.Failed k at → Tests f words a b hole part g
+-- a condition, whose jump where it fails is filled in later; a failure answers no jump's address, but 0
+abbrev pub Tests : {A : Type 0} → Bases → (A → ℕ → ℕ → List Sym) → Emitted → Emitted → ℕ → Part → Got A → Type 0
+Tests f words a b hole part g = Reads (λ t. Holed f a b (words t) hole) (Kept a b × (hole ≡ 0)) part g
 
--- a part after which a jump to its end is filled in
-pub data Alternates {A : Type 0} (f : Bases) (words : A → Code) (a b : Emitted) (hole : ℕ) (part : Part) (g : Got A) : Type 0 where
-  read : {t : A} {n : ℕ} {m : Emitted} → g ≡ got t n → part ≡ Part.Read n → Lays f a m (words t) → b ≡ record { image = filled (m .image) hole (m .code); code = m .code; pool = m .pool }
-      → Alternates f words a b hole part g
-  fails : {k at : ℕ} → g ≡ failed k at → part ≡ Part.Failed k at → Alternates f words a b hole part g
+-- words after which a jump to their end is filled in
+pub record Jumped (f : Bases) (words : Code) (a b : Emitted) (hole : ℕ) : Type 0 where
+  pub end : Emitted
+  pub lays : Lays f a end words
+  pub is : b ≡ record { image = filled (end .image) hole (end .code); code = end .code; pool = end .pool }
+
+abbrev pub Alternates : {A : Type 0} → Bases → (A → Code) → Emitted → Emitted → ℕ → Part → Got A → Type 0
+Alternates f words a b hole part g = Reads (λ t. Jumped f (words t) a b hole) (Kept a b) part g
+
+-- ---- The same of a function's answer, on the image before and after it
+
+abbrev pub Does : {A : Type 0} → (A → Code) → Context → Output → List ℕ → List ℕ → Answer → Got A → Type 0
+Does words context output before after r g = Compiles (basesOf context) words (emittedBy output before) (emittedBy (r .output) after) (r .part) g
+
+abbrev pub Decides : {A : Type 0} → (A → ℕ → ℕ → List Sym) → Context → Output → List ℕ → List ℕ → Tested → Got A → Type 0
+Decides words context output before after r g = Tests (basesOf context) words (emittedBy output before) (emittedBy (r .output) after) (r .hole) (r .part) g
+
+-- the names and the expressions of a level
+abbrev pub namesAt : Context → List ℕ → Names
+namesAt context table = heldBy (context .names) table
+
+abbrev pub exprAt : List ℕ → Context → List ℕ → ℕ → ℕ → Got Expr
+exprAt source context table left at = parseExpr source (namesAt context table) left at
+
+abbrev pub callAt : List ℕ → Context → List ℕ → ℕ → ℕ → ℕ → Got Term
+callAt source context table left number at = parseCall source (namesAt context table) (exprAt source context table left) (Term.call number) (Term.callWith number) at
+
+abbrev pub termAt : List ℕ → Context → List ℕ → ℕ → TermStart → ℕ → Got Term
+termAt source context table left start at = termFrom source (namesAt context table) (exprAt source context table left) start at
+
+-- ---- Parts of a form
 
 -- one more operation, if there is one
 pub data Turned (f : Bases) (a b : Emitted) (more : Bool) (part : Part) (g : Option (Got Operation)) : Type 0 where
@@ -43,6 +78,11 @@ pub record Always (a b : Emitted) (w : Code) : Type 0 where
 
 pub record AlwaysHoled (a b : Emitted) (w : ℕ → ℕ → List Sym) (hole : ℕ) : Type 0 where
   pub holed : (f : Bases) → Holed f a b w hole
+
+-- a jump whose target is filled in later: 0 until then, at the address that is answered
+pub record Jumps (output : Output) (image : List ℕ) (r : Jumping) (image' : List ℕ) : Type 0 where
+  pub puts : Puts output image (r .output) image' (reference JMP false 0)
+  pub at : r .hole ≡ output .code
 
 -- the words after a relation's CAS, by the relation's token
 pub record Related (kind : ℕ) (a b : Emitted) (hole : ℕ) : Type 0 where

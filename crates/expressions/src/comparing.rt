@@ -14,10 +14,9 @@ use source::Token;
 use source::token_at;
 ghost use Rattle.source.specs.Tokens.{tokenAt};
 ghost use Rattle.syntax.specs.Cells.{parseLoneCell};
-ghost use Rattle.symbols.specs.Table.{heldBy};
 ghost use Rattle.emitter.specs.Emitted.{emittedBy, basesOf};
 ghost use Rattle.expressions.specs.Chains.{comparisonOf, comparisonWords};
-ghost use Rattle.expressions.specs.Compiles.{Tests, Compares};
+ghost use Rattle.expressions.specs.Compiles.{Compares, Decides, namesAt};
 
 // A relation's cell and the relation's words, after the relation.
 fn related(
@@ -28,7 +27,8 @@ fn related(
     t: Token,
     output: Output,
 ) -> Tested
-    ensures { λ r. ⌜ Compares (basesOf context) (t .kind) (emittedBy output (now (image .entry))) (emittedBy (r .output) (now (image .exit))) (r .hole) (r .part) (parseLoneCell (now (source .entry)) (heldBy (context .names) (now (table .entry))) (t .next)) ⌝ }
+    ensures { λ r. ⌜ Compares (basesOf context) (t .kind) (emittedBy output (now (image .entry))) (emittedBy (r .output) (now (image .exit)))
+        (r .hole) (r .part) (parseLoneCell (now (source .entry)) (namesAt context (now (table .entry))) (t .next)) ⌝ }
 {
     let read = lone_cell_at(source, table, context.names, t.next);
     let compared = emit_read(image, context, code::CAS, read, output);
@@ -59,7 +59,8 @@ pub fn comparison(
     at: usize,
     output: Output,
 ) -> Tested
-    ensures { λ r. ⌜ Tests (basesOf context) comparisonWords (emittedBy output (now (image .entry))) (emittedBy (r .output) (now (image .exit))) (r .hole) (r .part) (comparisonOf (now (source .entry)) (heldBy (context .names) (now (table .entry))) (tokenAt (now (source .entry)) at)) ⌝ }
+    ensures { λ r. ⌜ Decides comparisonWords context output (now (image .entry)) (now (image .exit)) r
+        (comparisonOf (now (source .entry)) (namesAt context (now (table .entry))) (tokenAt (now (source .entry)) at)) ⌝ }
 {
     let t = token_at(source, at);
     if 0 < words::relation(t.kind) {

@@ -18,15 +18,13 @@ use instruction::code;
 use instruction::slot;
 use source::kind;
 use source::token_at;
-ghost use Rattle.syntax.specs.Tree.{Term};
 ghost use Rattle.syntax.specs.Emission.{cellWords, exprWords, termWords, condWords};
-ghost use Rattle.syntax.specs.Expressions.{termFrom, parseBracketed, parseCall, parseChain, parseCond, parseChoice, parseExpr};
-ghost use Rattle.symbols.specs.Table.{heldBy};
-ghost use Rattle.operands.specs.Trees.{treeCell};
+ghost use Rattle.syntax.specs.Expressions.{parseBracketed, parseChain, parseCond, parseChoice};
+ghost use Rattle.symbols.specs.Trees.{treeCell};
 ghost use Rattle.cells.specs.Answers.{gotWith, treeTermStart};
 ghost use Rattle.emitter.specs.Emitted.{emittedBy, basesOf};
 ghost use Rattle.expressions.specs.Chains.{elseExpr};
-ghost use Rattle.expressions.specs.Compiles.{Compiles, Tests, Alternates};
+ghost use Rattle.expressions.specs.Compiles.{Alternates, Does, Decides, namesAt, exprAt, callAt, termAt};
 
 mod comparing;
 mod operators;
@@ -61,7 +59,8 @@ fn emit_read(
     read: CellAnswer,
     output: Output,
 ) -> Answer
-    ensures { λ r. ⌜ Compiles (basesOf context) (λ c _. cellWords order c) (emittedBy output (now (image .entry))) (emittedBy (r .output) (now (image .exit))) (r .part) (gotWith (read .part) (treeCell (read .cell))) ⌝ }
+    ensures { λ r. ⌜ Does (λ c _. cellWords order c) context output (now (image .entry)) (now (image .exit)) r
+        (gotWith (read .part) (treeCell (read .cell))) ⌝ }
 {
     let part = read.part;
     let Part::Read { next: _ } = part else {
@@ -82,7 +81,8 @@ fn bracketed(
     left: usize,
     output: Output,
 ) -> Answer
-    ensures { λ r. ⌜ Compiles (basesOf context) exprWords (emittedBy output (now (image .entry))) (emittedBy (r .output) (now (image .exit))) (r .part) (parseBracketed (now (source .entry)) (heldBy (context .names) (now (table .entry))) (parseExpr (now (source .entry)) (heldBy (context .names) (now (table .entry))) left) at) ⌝ }
+    ensures { λ r. ⌜ Does exprWords context output (now (image .entry)) (now (image .exit)) r
+        (parseBracketed (now (source .entry)) (namesAt context (now (table .entry))) (exprAt (now (source .entry)) context (now (table .entry)) left) at) ⌝ }
 {
     let inner = expression(source, table, image, context, at, left, output);
     let part = inner.part;
@@ -108,7 +108,8 @@ pub fn call(
     left: usize,
     output: Output,
 ) -> Answer
-    ensures { λ r. ⌜ Compiles (basesOf context) termWords (emittedBy output (now (image .entry))) (emittedBy (r .output) (now (image .exit))) (r .part) (parseCall (now (source .entry)) (heldBy (context .names) (now (table .entry))) (parseExpr (now (source .entry)) (heldBy (context .names) (now (table .entry))) left) (Term.call number) (Term.callWith number) at) ⌝ }
+    ensures { λ r. ⌜ Does termWords context output (now (image .entry)) (now (image .exit)) r
+        (callAt (now (source .entry)) context (now (table .entry)) left number at) ⌝ }
 {
     let t = token_at(source, at);
     if t.kind != kind::LEFT_PARENTHESIS {
@@ -142,7 +143,8 @@ fn term(
     left: usize,
     output: Output,
 ) -> Answer
-    ensures { λ r. ⌜ Compiles (basesOf context) termWords (emittedBy output (now (image .entry))) (emittedBy (r .output) (now (image .exit))) (r .part) (termFrom (now (source .entry)) (heldBy (context .names) (now (table .entry))) (parseExpr (now (source .entry)) (heldBy (context .names) (now (table .entry))) left) (treeTermStart start) at) ⌝ }
+    ensures { λ r. ⌜ Does termWords context output (now (image .entry)) (now (image .exit)) r
+        (termAt (now (source .entry)) context (now (table .entry)) left (treeTermStart start) at) ⌝ }
 {
     match start {
         TermStart::Cell { start: cell } => {
@@ -177,7 +179,8 @@ fn chain(
     left: usize,
     output: Output,
 ) -> Answer
-    ensures { λ r. ⌜ Compiles (basesOf context) exprWords (emittedBy output (now (image .entry))) (emittedBy (r .output) (now (image .exit))) (r .part) (parseChain (now (source .entry)) (heldBy (context .names) (now (table .entry))) (parseExpr (now (source .entry)) (heldBy (context .names) (now (table .entry))) left) at) ⌝ }
+    ensures { λ r. ⌜ Does exprWords context output (now (image .entry)) (now (image .exit)) r
+        (parseChain (now (source .entry)) (namesAt context (now (table .entry))) (exprAt (now (source .entry)) context (now (table .entry)) left) at) ⌝ }
 {
     let from = unaries::unaries_next(source, at);
     let first = term_start_at(source, table, context.names, from);
@@ -206,7 +209,8 @@ pub fn condition(
     left: usize,
     output: Output,
 ) -> Tested
-    ensures { λ r. ⌜ Tests (basesOf context) condWords (emittedBy output (now (image .entry))) (emittedBy (r .output) (now (image .exit))) (r .hole) (r .part) (parseCond (now (source .entry)) (heldBy (context .names) (now (table .entry))) (parseExpr (now (source .entry)) (heldBy (context .names) (now (table .entry))) left) at) ⌝ }
+    ensures { λ r. ⌜ Decides condWords context output (now (image .entry)) (now (image .exit)) r
+        (parseCond (now (source .entry)) (namesAt context (now (table .entry))) (exprAt (now (source .entry)) context (now (table .entry)) left) at) ⌝ }
 {
     let t = token_at(source, at);
     let bare = words::bare(t.kind);
@@ -242,7 +246,8 @@ fn choice(
     left: usize,
     output: Output,
 ) -> Answer
-    ensures { λ r. ⌜ Compiles (basesOf context) exprWords (emittedBy output (now (image .entry))) (emittedBy (r .output) (now (image .exit))) (r .part) (parseChoice (now (source .entry)) (heldBy (context .names) (now (table .entry))) (parseExpr (now (source .entry)) (heldBy (context .names) (now (table .entry))) left) at) ⌝ }
+    ensures { λ r. ⌜ Does exprWords context output (now (image .entry)) (now (image .exit)) r
+        (parseChoice (now (source .entry)) (namesAt context (now (table .entry))) (exprAt (now (source .entry)) context (now (table .entry)) left) at) ⌝ }
 {
     let test = condition(source, table, image, context, at, left, output);
     let part = test.part;
@@ -280,7 +285,8 @@ fn alternative(
     output: Output,
     hole: u16,
 ) -> Answer
-    ensures { λ r. ⌜ Alternates (basesOf context) exprWords (emittedBy output (now (image .entry))) (emittedBy (r .output) (now (image .exit))) hole (r .part) (elseExpr (now (source .entry)) (parseExpr (now (source .entry)) (heldBy (context .names) (now (table .entry))) left) at) ⌝ }
+    ensures { λ r. ⌜ Alternates (basesOf context) exprWords (emittedBy output (now (image .entry))) (emittedBy (r .output) (now (image .exit))) hole (r .part)
+        (elseExpr (now (source .entry)) (exprAt (now (source .entry)) context (now (table .entry)) left) at) ⌝ }
 {
     let otherwise = expect(source, kind::ELSE, at);
     let Part::Read { next } = otherwise else {
@@ -309,7 +315,8 @@ pub fn expression(
     left: usize,
     output: Output,
 ) -> Answer
-    ensures { λ r. ⌜ Compiles (basesOf context) exprWords (emittedBy output (now (image .entry))) (emittedBy (r .output) (now (image .exit))) (r .part) (parseExpr (now (source .entry)) (heldBy (context .names) (now (table .entry))) left at) ⌝ }
+    ensures { λ r. ⌜ Does exprWords context output (now (image .entry)) (now (image .exit)) r
+        (exprAt (now (source .entry)) context (now (table .entry)) left at) ⌝ }
 {
     if left == 0 {
         let part = too_deep_at(source, table, context.names, at);

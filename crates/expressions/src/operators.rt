@@ -15,10 +15,9 @@ ghost use Rattle.source.specs.Bytes.{between};
 ghost use Rattle.syntax.specs.Emission.{Sym, operationsWords};
 ghost use Rattle.syntax.specs.Cells.{parseInRange};
 ghost use Rattle.syntax.specs.Expressions.{parseOperations};
-ghost use Rattle.symbols.specs.Table.{heldBy};
 ghost use Rattle.emitter.specs.Emitted.{emittedBy, basesOf};
 ghost use Rattle.expressions.specs.Chains.{operationAt};
-ghost use Rattle.expressions.specs.Compiles.{Compiles, Turned};
+ghost use Rattle.expressions.specs.Compiles.{Turned, Does, namesAt};
 
 // An operation's answer, if there is one.
 struct Turn {
@@ -36,7 +35,8 @@ fn shifted(
     at: usize,
     output: Output,
 ) -> Answer
-    ensures { λ r. ⌜ Compiles (basesOf context) (λ n _. Sym.shift kind n ∷ []) (emittedBy output (now (image .entry))) (emittedBy (r .output) (now (image .exit))) (r .part) (parseInRange (now (source .entry)) (heldBy (context .names) (now (table .entry))) (between 1 15) at) ⌝ }
+    ensures { λ r. ⌜ Does (λ n _. Sym.shift kind n ∷ []) context output (now (image .entry)) (now (image .exit)) r
+        (parseInRange (now (source .entry)) (namesAt context (now (table .entry))) (between 1 15) at) ⌝ }
 {
     let amount = amount_at(source, table, context.names, at);
     let part = amount.part;
@@ -59,7 +59,9 @@ fn operation(
     t: Token,
     output: Output,
 ) -> Turn
-    ensures { λ r. ⌜ Turned (basesOf context) (emittedBy output (now (image .entry))) (emittedBy (r .answer .output) (now (image .exit))) (r .more) (r .answer .part) (operationAt (now (source .entry)) (heldBy (context .names) (now (table .entry))) t) ⌝ }
+    ensures { λ r. ⌜ Turned (basesOf context) (emittedBy output (now (image .entry))) (emittedBy (r .answer .output) (now (image .exit)))
+        (r .more) (r .answer .part)
+        (operationAt (now (source .entry)) (namesAt context (now (table .entry))) t) ⌝ }
 {
     let operator = words::operator(t.kind);
     if 0 < operator {
@@ -89,7 +91,8 @@ pub fn operations(
     at: usize,
     output: Output,
 ) -> Answer
-    ensures { λ r. ⌜ Compiles (basesOf context) (λ os _. operationsWords os) (emittedBy output (now (image .entry))) (emittedBy (r .output) (now (image .exit))) (r .part) (parseOperations (now (source .entry)) (heldBy (context .names) (now (table .entry))) at) ⌝ }
+    ensures { λ r. ⌜ Does (λ os _. operationsWords os) context output (now (image .entry)) (now (image .exit)) r
+        (parseOperations (now (source .entry)) (namesAt context (now (table .entry))) at) ⌝ }
 {
     let mut i = at;
     let mut held = output;

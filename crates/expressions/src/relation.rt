@@ -10,11 +10,11 @@ ghost use mathlib.Core.List.{[], _∷_};
 ghost use Rattle.source.specs.Kinds;
 ghost use Rattle.syntax.specs.Emission.{Sym};
 ghost use Rattle.emitter.specs.Emitted.{emittedBy};
-ghost use Rattle.expressions.specs.Compiles.{AlwaysHoled, Related};
+ghost use Rattle.expressions.specs.Compiles.{AlwaysHoled, Jumps, Related};
 
 // A jump whose target is filled in later.
 pub fn emit_hole(image: &mut [u16], output: Output) -> Jumping
-    ensures { λ r. ⌜ AlwaysHoled (emittedBy output (now (image .entry))) (emittedBy (r .output) (now (image .exit))) (λ at z. Sym.jump z ∷ []) (r .hole) ⌝ }
+    ensures { λ r. ⌜ Jumps output (now (image .entry)) r (now (image .exit)) ⌝ }
 {
     let hole = output.code;
     let more = emit_jump(image, output, 0);

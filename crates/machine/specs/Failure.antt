@@ -31,8 +31,9 @@ failureOf Halted = 0
 failureOf Spent = 0
 failureOf (Failed n) = n
 
--- "A run is refused if it fails other than with 20 or 21"
+-- "A run is refused if it fails other than with 20 or 21"; 0 is no failure's number
+abbrev pub isRefusal : ℕ → Bool
+isRefusal n = cond (eqb n 0) false (cond (eqb n unknownWord) false (cond (eqb n longChain) false true))
+
 abbrev pub refused : Outcome → Bool
-refused Halted = false
-refused Spent = false
-refused (Failed n) = cond (eqb n unknownWord) false (cond (eqb n longChain) false true)
+refused o = isRefusal (failureOf o)

@@ -16,9 +16,9 @@ use Rattle.machine.specs.Run.{Ran, ran, runFrom, runDef}
 use Rattle.runs.specs.Ends.{Says, Refusal, of-image, of-p, of-budget, RefusedExactly}
 use Rattle.runs.proofs.Iteration.{run-ends}
 
-pub data Fate (q : Request) (s : State) : Type 0 where
-  denied : (n : ℕ) → Refusal q s n → refused (Failed n) ≡ true → runDef q s ≡ ran 0 (Failed n) s → Fate q s
-  granted : Good s → q .budget ≤ 1000000 → runDef q s ≡ runFrom (q .budget) s → Fate q s
+pub data Decision (q : Request) (s : State) : Type 0 where
+  refuses : (n : ℕ) → Refusal q s n → refused (Failed n) ≡ true → runDef q s ≡ ran 0 (Failed n) s → Decision q s
+  permits : Good s → q .budget ≤ 1000000 → runDef q s ≡ runFrom (q .budget) s → Decision q s
 
 -- the run by its three tests
 by-tests : Request → State → Bool → Bool → Bool → Ran
@@ -34,16 +34,16 @@ module _ (q : Request) (s : State) where
   in-image : ltb 16383 (s .machine .p) ≡ false → s .machine .p < 16384
   in-image h = omega (arith, ltb-false 16383 (s .machine .p) h)
 
-  fate-by : (image p budget : Bool) → eqb (length (s .image)) 16384 ≡ image → ltb 16383 (s .machine .p) ≡ p → ltb 1000000 (q .budget) ≡ budget
-      → Fate q s
+  decided-by : (image p budget : Bool) → eqb (length (s .image)) 16384 ≡ image → ltb 16383 (s .machine .p) ≡ p → ltb 1000000 (q .budget) ≡ budget
+      → Decision q s
   unfolding by-tests
-  fate-by false p budget i j b = denied wrongImage (of-image (eqb-false _ _ i)) refl (tested i j b)
-  fate-by true true budget i j b = denied wrongP (of-p (eqb-true _ _ i) (ltb-true _ _ j)) refl (tested i j b)
-  fate-by true false true i j b = denied overBudget (of-budget (eqb-true _ _ i, in-image j) (ltb-true _ _ b)) refl (tested i j b)
-  fate-by true false false i j b = granted (eqb-true _ _ i, in-image j) (ltb-false _ _ b) (tested i j b)
+  decided-by false p budget i j b = refuses wrongImage (of-image (eqb-false _ _ i)) refl (tested i j b)
+  decided-by true true budget i j b = refuses wrongP (of-p (eqb-true _ _ i) (ltb-true _ _ j)) refl (tested i j b)
+  decided-by true false true i j b = refuses overBudget (of-budget (eqb-true _ _ i, in-image j) (ltb-true _ _ b)) refl (tested i j b)
+  decided-by true false false i j b = permits (eqb-true _ _ i, in-image j) (ltb-false _ _ b) (tested i j b)
 
-  pub fate : Fate q s
-  fate = fate-by _ _ _ refl refl refl
+  pub decided : Decision q s
+  decided = decided-by _ _ _ refl refl refl
 
   refusal-answer : (n : ℕ) → Refusal q s n → runDef q s ≡ ran 0 (Failed n) s
   unfolding by-tests
@@ -67,26 +67,26 @@ not-refused-by n r (Failed f) h = numbered (h .3)
 pub not-refused : (n : ℕ) (s : State) → refused (runFrom n s .outcome) ≡ false
 not-refused n s = not-refused-by n (runFrom n s) (runFrom n s .outcome) (run-ends n s .says)
 
-refusal-cause : (q : Request) (s : State) (n : ℕ) → Fate q s → refused (runDef q s .outcome) ≡ true → runDef q s .outcome ≡ Failed n → Refusal q s n
-refusal-cause q s n (denied m c r e) h o =
+refusal-cause : (q : Request) (s : State) (n : ℕ) → Decision q s → refused (runDef q s .outcome) ≡ true → runDef q s .outcome ≡ Failed n → Refusal q s n
+refusal-cause q s n (refuses m c r e) h o =
     let d : m ≡ n = cc in subst (Refusal q s) d c
-refusal-cause q s n (granted g b e) h o =
+refusal-cause q s n (permits g b e) h o =
     let l : refused (runDef q s .outcome) ≡ false = ap (λ (r : Ran). refused (r .outcome)) e ∙ not-refused (q .budget) s in
     absurd (never h l)
 
 pub refusals : (q : Request) (s : State) (n : ℕ) → RefusedExactly q s n
-refusals q s n = record { answer = refusal-answer q s n; cause = refusal-cause q s n (fate q s) }
+refusals q s n = record { answer = refusal-answer q s n; cause = refusal-cause q s n (decided q s) }
 
-allowed-by : (q : Request) (s : State) → Fate q s → refused (runDef q s .outcome) ≡ false
+allowed-by : (q : Request) (s : State) → Decision q s → refused (runDef q s .outcome) ≡ false
     → Good s × (q .budget ≤ 1000000) × (runDef q s ≡ runFrom (q .budget) s)
-allowed-by q s (denied n c r e) h =
+allowed-by q s (refuses n c r e) h =
     let l : refused (runDef q s .outcome) ≡ true = ap (λ (x : Ran). refused (x .outcome)) e ∙ r in
     absurd (never l h)
-allowed-by q s (granted g b e) h = (g, b, e)
+allowed-by q s (permits g b e) h = (g, b, e)
 
 pub allowed : (q : Request) (s : State) → refused (runDef q s .outcome) ≡ false
     → Good s × (q .budget ≤ 1000000) × (runDef q s ≡ runFrom (q .budget) s)
-allowed q s h = allowed-by q s (fate q s) h
+allowed q s h = allowed-by q s (decided q s) h
 
 -- and the other way round
 pub run-good : (q : Request) (s : State) → Good s → q .budget ≤ 1000000 → runDef q s ≡ runFrom (q .budget) s

@@ -12,22 +12,23 @@ use Rattle.machine.specs.Step.{made, stepDef}
 use Rattle.machine.specs.Run.{ran, runFrom, runDef}
 use Rattle.runs.specs.Steps.{Steps}
 use Rattle.runs.specs.Ends.{Ended, RefusedExactly}
-use Rattle.runs.specs.Runs.{runsDef, budgetsOf}
+use Rattle.runs.specs.Runs.{runsDef, clockAfter}
 
 -- q, but for its budget
 abbrev pub withBudget : Request → ℕ → Request
 withBudget q n = record { budget = n }
 
--- a run of n, then one of m that goes on from what it left, come to the run of n + m: in steps, state (image too) and clock, and in the outcome
-pub record Resumed (q : Request) (n m : ℕ) (s : State) (k : Clock) : Type 0 where
-  pub total : runsDef (withBudget q n ∷ withBudget q m ∷ []) s k ≡ runsDef (withBudget q (n + m) ∷ []) s k
+-- a run of n, then one of m that goes on from what it left, come to the run of n + m: in budgets, steps and state (image too), in the clock, and in the outcome
+pub record Resumed (q : Request) (n m : ℕ) (s : State) : Type 0 where
+  pub total : runsDef (withBudget q n ∷ withBudget q m ∷ []) s ≡ runsDef (withBudget q (n + m) ∷ []) s
+  pub clock : (k : Clock) → clockAfter (withBudget q n ∷ withBudget q m ∷ []) s k ≡ clockAfter (withBudget q (n + m) ∷ []) s k
   pub outcome : runDef (withBudget q m) (runDef (withBudget q n) s .state) .outcome ≡ runDef (withBudget q (n + m)) s .outcome
 
 -- a list of runs is one iteration of the step, for the sum of the budgets not refused; the clock counts its steps
-pub record AsOne (qs : List Request) (s : State) (k : Clock) : Type 0 where
-  pub state : runsDef qs s k .state ≡ runFrom (budgetsOf qs s) s .state
-  pub steps : runsDef qs s k .steps ≡ runFrom (budgetsOf qs s) s .steps
-  pub clock : k .common < 2 ^ 32 → runsDef qs s k .clock .common ≡ (k .common + runsDef qs s k .steps) % 2 ^ 32
+pub record AsOne (qs : List Request) (s : State) : Type 0 where
+  pub state : runsDef qs s .state ≡ runFrom (runsDef qs s .granted) s .state
+  pub steps : runsDef qs s .steps ≡ runFrom (runsDef qs s .granted) s .steps
+  pub clock : (k : Clock) → k .common < 2 ^ 32 → clockAfter qs s k .common ≡ (k .common + runsDef qs s .steps) % 2 ^ 32
 
 pub record RunLaws : Type 0 where
   -- a run is refused exactly on its cause
@@ -43,15 +44,15 @@ pub record RunLaws : Type 0 where
   pub step-keeps : (s t : State) → Good s → stepDef s ≡ made t → Good t
   pub run-keeps : (q : Request) (s : State) → refused (runDef q s .outcome) ≡ false → Good (runDef q s .state)
   -- a run that is spent can be gone on with, as if it had had both budgets
-  pub resumed : (q : Request) (n m : ℕ) (s : State) (k : Clock) → n + m ≤ 1000000 → runDef (withBudget q n) s .outcome ≡ Spent → Resumed q n m s k
+  pub resumed : (q : Request) (n m : ℕ) (s : State) → n + m ≤ 1000000 → runDef (withBudget q n) s .outcome ≡ Spent → Resumed q n m s
   -- a list of runs, whatever the requests, refused ones included
-  pub list : (qs : List Request) (s : State) (k : Clock) → AsOne qs s k
+  pub list : (qs : List Request) (s : State) → AsOne qs s
   -- where n steps lead to u, and the budgets not refused add up to n, the list makes just those
-  pub reached : (qs : List Request) (k : Clock) {n : ℕ} {s u : State} → Steps n s u → budgetsOf qs s ≡ n
-      → (runsDef qs s k .state ≡ u) × (runsDef qs s k .steps ≡ n)
+  pub reached : (qs : List Request) {n : ℕ} {s u : State} → Steps n s u → runsDef qs s .granted ≡ n
+      → (runsDef qs s .state ≡ u) × (runsDef qs s .steps ≡ n)
   -- where the step after those n is a halt, and the budgets add up to more than n, the list makes that step too, and no other
-  pub halts : (qs : List Request) (k : Clock) {n : ℕ} {s u t : State} → Steps n s u → u .machine .halted ≡ false → stepDef u ≡ made t
-      → t .machine .halted ≡ true → n < budgetsOf qs s → (runsDef qs s k .state ≡ t) × (runsDef qs s k .steps ≡ suc n)
+  pub halts : (qs : List Request) {n : ℕ} {s u t : State} → Steps n s u → u .machine .halted ≡ false → stepDef u ≡ made t
+      → t .machine .halted ≡ true → n < runsDef qs s .granted → (runsDef qs s .state ≡ t) × (runsDef qs s .steps ≡ suc n)
   -- where n steps can be made, none a halt, and the budgets add up to no more than n, the list makes every step of the budgets and is not halted
-  pub all-made : (qs : List Request) (k : Clock) {n : ℕ} {s u : State} → Steps n s u → u .machine .halted ≡ false → budgetsOf qs s ≤ n
-      → (runsDef qs s k .state .machine .halted ≡ false) × (runsDef qs s k .steps ≡ budgetsOf qs s)
+  pub all-made : (qs : List Request) {n : ℕ} {s u : State} → Steps n s u → u .machine .halted ≡ false → runsDef qs s .granted ≤ n
+      → (runsDef qs s .state .machine .halted ≡ false) × (runsDef qs s .steps ≡ runsDef qs s .granted)

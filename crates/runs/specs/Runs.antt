@@ -4,26 +4,34 @@ use mathlib.Core.Bool.{cond}
 use mathlib.Core.List.{List, [], _∷_}
 use Rattle.machine.specs.declared.Clock.{Clock}
 use Rattle.machine.specs.declared.Request.{Request}
+use Rattle.machine.specs.declared.Outcome.{Outcome}
 use Rattle.machine.specs.Failure.{refused}
 use Rattle.machine.specs.State.{State}
 use Rattle.machine.specs.Clock.{spendMany}
 use Rattle.machine.specs.Run.{runDef}
 
--- what the runs come to: all the steps made, and the state and clock that the last one leaves
+-- what the runs come to: the sum of "the budgets not refused", a plain number; all the steps made; the state that the last one leaves
 pub record Total : Type 0 where
+  pub granted : ℕ
   pub steps : ℕ
   pub state : State
-  pub clock : Clock
 
-unfoldable pub runsDef : List Request → State → Clock → Total
-runsDef [] s k = record { steps = 0; state = s; clock = k }
-runsDef (q ∷ qs) s k =
-    let r = runDef q s in
-    let t = runsDef qs (r .state) (spendMany q (r .steps) k) in
-    record { steps = r .steps + t .steps; state = t .state; clock = t .clock }
+-- no run, and a run before others, by its outcome and its steps
+abbrev pub noRun : State → Total
+noRun s = record { granted = 0; steps = 0; state = s }
 
--- the sum of "the budgets not refused", a plain number
-unfoldable pub budgetsOf : List Request → State → ℕ
-budgetsOf [] s = 0
-budgetsOf (q ∷ qs) s =
-    let r = runDef q s in cond (refused (r .outcome)) 0 (q .budget) + budgetsOf qs (r .state)
+abbrev pub withRun : Request → Outcome → ℕ → Total → Total
+withRun q o n t = record { granted = cond (refused o) 0 (q .budget) + t .granted; steps = n + t .steps; state = t .state }
+
+unfoldable pub runsDef : List Request → State → Total
+runsDef [] s = noRun s
+runsDef (q ∷ qs) s = let r = runDef q s in withRun q (r .outcome) (r .steps) (runsDef qs (r .state))
+
+-- the clock after them, where nobody else's runs move it on
+unfoldable pub clockAfter : List Request → State → Clock → Clock
+clockAfter [] s k = k
+clockAfter (q ∷ qs) s k = let r = runDef q s in clockAfter qs (r .state) (spendMany q (r .steps) k)
+
+-- some list of runs from a state comes to a total
+pub data Comes (s : State) : Total → Type 0 where
+  list : (qs : List Request) → Comes s (runsDef qs s)

@@ -1,12 +1,4 @@
--- Every program that is accepted is well-formed. Assumes nothing.
-pub mod Parts
-pub mod Words
-pub mod Names
-pub mod Forms
-pub mod Statements
-pub mod Scopes
-pub mod Locals
-pub mod Declarations
+-- What an accepted program is, its pools and its sectors. Assumes nothing.
 pub mod Accepted
 pub mod Pools
 pub mod Sectors

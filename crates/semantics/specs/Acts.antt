@@ -1,27 +1,33 @@
 -- The acts of the semantics, each one step, by the machine's own effects: "Loads, unary words, operators, shifts, tests and stores act .. in the laid words' order, each as its order does". Assumes nothing.
 use Prim.Native.Nat.{ℕ, suc, _+_, _-_, _%_}
 use mathlib.Core.Bool.{Bool, true, false, cond}
+use mathlib.Core.List.{List, [], _∷_}
 use lib.Dec.{eqb, leb, ltb}
 use Rattle.effect.specs.declared.Registers.{Registers}
 use Rattle.effect.specs.Effects.{operateOf, unaryOf, shiftedOf}
 use Rattle.effect.specs.Skips.{skipsOf}
 use Rattle.instruction.specs.Slot.{SPL, TCA}
 use Rattle.syntax.specs.Tree.{Id, Array, Operand, Subscript, Cell, CellId, sameCell}
+use Rattle.syntax.specs.Emission.{Plain}
 use Rattle.semantics.specs.Trace.{State, Trace, bind}
+
+-- a step made: what every instruction does besides its own effect
+abbrev pub stepped : State → State
+stepped σ = record { cells = σ .cells; registers = σ .registers; switches = σ .switches; steps = suc (σ .steps) }
 
 -- with other registers, or with a cell changed, a step later
 abbrev pub withRegisters : State → Registers → State
-withRegisters σ r = record { cells = σ .cells; registers = r; switches = σ .switches; steps = suc (σ .steps) }
+withRegisters σ r = stepped (record { cells = σ .cells; registers = r; switches = σ .switches; steps = σ .steps })
 
 unfoldable pub updated : (CellId → ℕ) → CellId → ℕ → CellId → ℕ
 updated cells i v j = cond (sameCell i j) v (cells j)
 
 abbrev pub store : CellId → ℕ → State → State
-store i v σ = record { cells = updated (σ .cells) i v; registers = σ .registers; switches = σ .switches; steps = suc (σ .steps) }
+store i v σ = stepped (record { cells = updated (σ .cells) i v; registers = σ .registers; switches = σ .switches; steps = σ .steps })
 
--- a step that changes nothing: a skip, a NOP, a jump
+-- a step without any other effect: a skip, a NOP, a jump
 abbrev pub tick : State → State
-tick σ = withRegisters σ (σ .registers)
+tick σ = stepped σ
 
 abbrev pub xCell : CellId
 xCell = CellId.named Id.x
@@ -57,12 +63,16 @@ isInside a v = cond (leb (65536 - a .size) v) (ltb v 65536) false
 unfoldable pub element : Array → State → Trace CellId
 element a σ = cond (isInside a (σ .cells xCell)) (Trace.done (CellId.element (a .number) (σ .cells xCell)) σ) (Trace.broke σ)
 
+-- an array is entered: X loaded, and the element that it then names
+unfoldable pub entered : Array → Subscript → State → Trace CellId
+entered a s σ = element a (subscripted s σ)
+
 unfoldable pub asPlace : CellId → State → Trace Place
 asPlace i σ = Trace.done (Place.held i) σ
 
 unfoldable pub reach : Cell → State → Trace Place
 reach (Cell.plain o) σ = Trace.done (placeOf o) σ
-reach (Cell.item a s) σ = bind (element a (subscripted s σ)) asPlace
+reach (Cell.item a s) σ = bind (entered a s σ) asPlace
 
 -- ---- What is done with them
 
@@ -84,6 +94,11 @@ absolute σ = cond (skipsOf SPL (σ .registers) (σ .switches)) (tick σ) (gener
 
 abbrev pub shifted : ℕ → ℕ → State → State
 shifted kind n σ = withRegisters σ (shiftedOf kind n (σ .registers))
+
+abbrev pub plainOn : List Plain → State → State
+plainOn [] σ = σ
+plainOn (Plain.generic slot ∷ ps) σ = plainOn ps (generic slot σ)
+plainOn (Plain.shift kind n ∷ ps) σ = plainOn ps (shifted kind n σ)
 
 -- a test that skips the `JMP false` where it holds
 unfoldable pub test : ℕ → State → Trace Bool

@@ -4,11 +4,9 @@ use mathlib.Core.Path.{_≡_}
 use mathlib.Core.Bool.{true, false}
 use mathlib.Core.List.{List, List·Memᴰ}
 use lib.ListN.{length, getD}
-use Rattle.machine.specs.declared.Clock.{Clock}
-use Rattle.machine.specs.declared.Request.{Request}
 use Rattle.machine.specs.declared.Machine.{Machine}
 use Rattle.machine.specs.State as machine
-use Rattle.runs.specs.Runs.{Total, runsDef, budgetsOf}
+use Rattle.runs.specs.Runs.{Total, Comes}
 use Rattle.syntax.specs.Tree.{CellId, Program}
 use Rattle.emission.specs.Map.{Word, mapOf}
 use Rattle.emission.specs.Compile.{Compiled, Result, compileDef}
@@ -89,38 +87,51 @@ Rising low (Trace.observe m t) = (low ≤ m .steps) × Rising (m .steps) t
 
 -- ---- The statement
 
--- the runs come to the meaning's state τ: "just so many steps are made, none a halt"
+-- a list of runs comes to the meaning's state τ: "just so many steps are made, none a halt, and the variables, A, B, C and X are those that the meaning has"
 pub record Meets (p : Program) (τ : State) (t : Total) : Type 0 where
   pub steps : t .steps ≡ τ .steps
   pub running : t .state .machine .halted ≡ false
   pub shows : Shows p τ (t .state)
 
--- "the list halts exactly when the meaning ends and those budgets add up to more than its last number, one step after it, in the same final values; where it doesn't halt, every step of those budgets is made"
-pub data Fate (p : Program) (σ : State) (s : machine.State) (qs : List Request) (k : Clock) : Type 0 where
-  halts : (f : ℕ) (τ : State) → Ends τ (meaning f p σ) → τ .steps < budgetsOf qs s → runsDef qs s k .state .machine .halted ≡ true
-      → runsDef qs s k .steps ≡ suc (τ .steps) → Shows p τ (runsDef qs s k .state) → Fate p σ s qs k
-  goes-on : ((f : ℕ) (τ : State) → Ends τ (meaning f p σ) → budgetsOf qs s ≤ τ .steps) → runsDef qs s k .state .machine .halted ≡ false
-      → runsDef qs s k .steps ≡ budgetsOf qs s → Fate p σ s qs k
+-- every step of the budgets is made, none a halt
+pub record AllMade (t : Total) : Type 0 where
+  pub steps : t .steps ≡ t .granted
+  pub running : t .state .machine .halted ≡ false
 
-pub record Agrees (p : Program) (σ : State) (s : machine.State) : Type 0 where
+-- the list halts where the meaning ended in τ: "one step after it, in the same final values"
+pub record HaltsAfter (p : Program) (τ : State) (t : Total) : Type 0 where
+  pub steps : t .steps ≡ suc (τ .steps)
+  pub halted : t .state .machine .halted ≡ true
+  pub shows : Shows p τ (t .state)
+
+pub data ListEnds (p : Program) (σ : State) (t : Total) : Type 0 where
+  -- "the list halts exactly when the meaning ends and those budgets add up to more than its last number"
+  halts : (f : ℕ) (τ : State) → Ends τ (meaning f p σ) → τ .steps < t .granted → HaltsAfter p τ t → ListEnds p σ t
+  -- "where it doesn't halt, every step of those budgets is made"
+  goes-on : ((f : ℕ) (τ : State) → Ends τ (meaning f p σ) → t .granted ≤ τ .steps) → AllMade t → ListEnds p σ t
+
+-- "For every list of runs from there": `comes t` says that one of them comes to t
+pub record Agrees (p : Program) (σ : State) (comes : Total → Type 0) : Type 0 where
   -- there is one meaning: more fuel only extends what less fuel shows
   pub steady : (f g : ℕ) → f ≤ g → Begins (meaning f p σ) (meaning g p σ)
-  -- fuel f shows everything below f steps, so that no statement's end is left out
+  -- "every statement's end that the left-to-right meaning reaches": fuel f shows everything below f steps, so that none is left out
   pub complete : (f : ℕ) (τ : State) → RunsOut τ (meaning f p σ) → f ≤ τ .steps
-  -- each statement's end has a number of steps, "in order"
+  -- it "has a number of steps, counted from the entry, in order and the same for every list below": the meaning's own, which no list has a part in
   pub rising : (f : ℕ) → Rising 0 (meaning f p σ)
-  -- every variable that is declared has one home, where the machine is said to show it
+  -- "the variables": every variable that is declared has one home, where the memory is said to show it
   pub homes : (i : CellId) → List·Memᴰ i (variablesOf p) → Home p i
   -- "if the budgets not refused add up to such a number, just so many steps are made, none a halt, and the variables, A, B, C and X are those that the meaning has after that statement"
-  pub observed : (f : ℕ) (m : State) → Observes m (meaning f p σ) → (qs : List Request) (k : Clock) → budgetsOf qs s ≡ m .steps → Meets p m (runsDef qs s k)
-  -- where the meaning breaks off, the machine is still running, X loaded
-  pub broken : (f : ℕ) (τ : State) → Breaks τ (meaning f p σ) → (qs : List Request) (k : Clock) → budgetsOf qs s ≡ τ .steps → Meets p τ (runsDef qs s k)
+  pub observed : (f : ℕ) (τ : State) → Observes τ (meaning f p σ) → (t : Total) → comes t → t .granted ≡ τ .steps → Meets p τ t
+  -- "before any subscript outside its array": where the meaning breaks off at one, X is loaded and the machine still runs,
+  pub broken : (f : ℕ) (τ : State) → Breaks τ (meaning f p σ) → (t : Total) → comes t → t .granted ≡ τ .steps → Meets p τ t
+  -- and budgets that add up to no more than that number are made in full
+  pub until-broken : (f : ℕ) (τ : State) → Breaks τ (meaning f p σ) → (t : Total) → comes t → t .granted ≤ τ .steps → AllMade t
   -- "If no such subscript is used"
-  pub fate : ((f : ℕ) (τ : State) → Breaks τ (meaning f p σ) → ⊥) → (qs : List Request) (k : Clock) → Fate p σ s qs k
+  pub ends : ((f : ℕ) (τ : State) → Breaks τ (meaning f p σ) → ⊥) → (t : Total) → comes t → ListEnds p σ t
 
 -- "Suppose a recipe is accepted, its image loaded .."
 unfoldable pub Demand3 : Type 0
-Demand3 = (source : List ℕ) (c : Compiled) → compileDef source ≡ Result.accepted c → (σ : State) (s : machine.State) → Loaded c σ s → Agrees (c .program) σ s
+Demand3 = (source : List ℕ) (c : Compiled) → compileDef source ≡ Result.accepted c → (σ : State) (s : machine.State) → Loaded c σ s → Agrees (c .program) σ (Comes s)
 
 -- ---- Such machines exist
 

@@ -12,7 +12,7 @@ use Rattle.emission.specs.Map.{planOf}
 use Rattle.emission.specs.Compile.{Compiled, Result, compiled, compileDef}
 use Rattle.semantics.specs.Variables.{variablesOf}
 use Rattle.semantics.specs.Agreement.{Home}
-use Rattle.semantics.specs.WellFormed.{WellFormed}
+use Rattle.parsing_laws.specs.WellFormed.{WellFormed}
 use Rattle.semantics.specs.Laid.{Sound, LaidProgram}
 use Rattle.semantics.specs.Known.{knownOf, mapAt}
 

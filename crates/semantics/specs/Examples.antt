@@ -14,13 +14,13 @@ use Rattle.syntax.specs.Parse.{Got}
 use Rattle.syntax.specs.Program.{parseProgram}
 use Rattle.syntax.specs.Computed as syntax
 use Rattle.semantics.specs.Trace.{State, Trace, bind, next, ended}
-use Rattle.semantics.specs.Acts.{updated, placeOf, valueOf, subscripted, isInside, element, asPlace, reach, operate, storeA, setX, absolute, test, jump, counted}
+use Rattle.semantics.specs.Acts.{updated, placeOf, valueOf, subscripted, isInside, element, entered, asPlace, reach, operate, storeA, setX, absolute, test, jump, counted}
 use Rattle.semantics.specs.Variables.{itemVariables, itemConstants, wordsOf, localsBy, elementsOf, declaredBy, variablesOf, constantsOf}
 use Rattle.semantics.specs.Meaning.{unaryOn, unariesOn, operationOn, operationsOn, called, chosen, orderOf, holds, wordsAfter, ticks, related, whileTurns, forTurns, assigned, stmtsBy, termBy, condBy, exprBy, exprAt, bodyBy, stmtAt, globalsOf, withDeclaration, proceduresFrom, proceduresOf, meaning}
 
 -- every definition that a meaning rests on, listed once
 unfoldable pub computed : ℕ → Program → State → Trace (Unit {0})
-unfolding syntax.computed compareOf sumOf differenceOf shiftOf signChanges operateOf unaryOf skipsOf sameId sameCell bind next ended updated placeOf valueOf subscripted isInside element asPlace reach operate storeA setX absolute test jump counted unaryOn unariesOn operationOn operationsOn called chosen orderOf holds wordsAfter ticks related whileTurns forTurns assigned stmtsBy termBy condBy exprBy exprAt bodyBy stmtAt globalsOf withDeclaration proceduresFrom proceduresOf meaning
+unfolding syntax.computed compareOf sumOf differenceOf shiftOf signChanges operateOf unaryOf skipsOf sameId sameCell bind next ended updated placeOf valueOf subscripted isInside element entered asPlace reach operate storeA setX absolute test jump counted unaryOn unariesOn operationOn operationsOn called chosen orderOf holds wordsAfter ticks related whileTurns forTurns assigned stmtsBy termBy condBy exprBy exprAt bodyBy stmtAt globalsOf withDeclaration proceduresFrom proceduresOf meaning
 computed f p σ = meaning f p σ
 
 pub data Ending : Type 0 where

@@ -3,6 +3,7 @@ use Prim.Native.Nat.{ℕ, suc, _+_, _%_, _<_}
 use mathlib.Core.Path.{_≡_}
 use mathlib.Core.Bool.{Bool, true, false}
 use mathlib.Core.List.{List, [], _∷_}
+use mathlib.Core.Option.{Option}
 use lib.Dec.{leb}
 use Rattle.instruction.specs.Code.{JMP, LDA, STA, JST, CAS, IRS, LDX}
 use Rattle.instruction.specs.Slot.{HLT, SKP, NOP, CRA, SPL, TCA}
@@ -12,7 +13,7 @@ use Rattle.instruction.specs.declared.Instruction.the-variants.{Memory, Shift, 
 use Rattle.machine.specs.Address.{baseOf}
 use Rattle.syntax.specs.Tree.{Id, CellId, Array, Operand, Subscript, Cell, Unary, Operation, Expr, Term, Cond, Target, Stmt, Stmts}
 use Rattle.syntax.specs.Tree as tree
-use Rattle.syntax.specs.Emission.{Sym, Control, unaryWords, operatorCode, shiftKind, testSlot, bareSlot, controls, targetCell}
+use Rattle.syntax.specs.Emission.{Plain, Control, unaryPlain, operatorCode, shiftPlain, testSlot, bareSlot, controls, targetCell}
 use Rattle.emission.specs.Map.{Word}
 use Rattle.semantics.specs.Acts.{isInside}
 
@@ -71,15 +72,15 @@ pub data Knows : Known → ℕ → Type 0 where
   earlier : {p q : ℕ} {s : Stmts} {ps : Known} → Knows ps p → Knows ((q, s) ∷ ps) p
 
 module _ (M : Map) where
-  -- the LDX of a subscript
-  pub data LaidSubscript : Subscript → ℕ → ℕ → Type 0 where
-    by : {o : Operand} {a k : ℕ} → Refers M a LDX false k → Direct M o k → LaidSubscript (Subscript.by o) a (suc a)
-    hash : {a : ℕ} → LaidSubscript Subscript.hash a a
+  -- the LDX of an array's subscript; the array is there for what may be laid after it
+  pub data LaidSubscript (r : Array) : Subscript → ℕ → ℕ → Type 0 where
+    by : {o : Operand} {a k : ℕ} → Refers M a LDX false k → Direct M o k → LaidSubscript r (Subscript.by o) a (suc a)
+    hash : {a : ℕ} → LaidSubscript r Subscript.hash a a
 
   -- a cell's own words go from a to m; the instruction at m then has the indirect flag i and refers to k
   pub data LaidCell : Cell → ℕ → ℕ → Bool → ℕ → Type 0 where
     plain : {o : Operand} {a k : ℕ} → Direct M o k → LaidCell (Cell.plain o) a a false k
-    item : {r : Array} {s : Subscript} {a m k : ℕ} → LaidSubscript s a m → ArrayWord M r k → LaidCell (Cell.item r s) a m true k
+    item : {r : Array} {s : Subscript} {a m k : ℕ} → LaidSubscript r s a m → ArrayWord M r k → LaidCell (Cell.item r s) a m true k
 
   pub data LaidOn (code : ℕ) : Cell → ℕ → ℕ → Type 0 where
     on : {c : Cell} {a m k : ℕ} {indirect : Bool} → LaidCell c a m indirect k → Refers M m code indirect k → LaidOn code c a (suc m)
@@ -90,10 +91,16 @@ module _ (M : Map) where
   pub data LaidCall (ps : Known) (p a : ℕ) : Type 0 where
     call : {k : ℕ} → Knows ps p → ProcedureWord M p k → Refers M a JST true k → LaidCall ps p a
 
+  -- instructions on the registers alone
+  pub data LaidPlain : List Plain → ℕ → ℕ → Type 0 where
+    none : {a : ℕ} → LaidPlain [] a a
+    generic : {slot a b : ℕ} {ps : List Plain} → Sits M a (Generic slot) → LaidPlain ps (suc a) b → LaidPlain (Plain.generic slot ∷ ps) a b
+    shift : {kind n a b : ℕ} {ps : List Plain} → Sits M a (Shift kind n) → LaidPlain ps (suc a) b → LaidPlain (Plain.shift kind n ∷ ps) a b
+
   -- unary words, the last in the source first
-  pub data LaidUnary : Unary → ℕ → ℕ → Type 0 where
-    one : {u : Unary} {slot a : ℕ} → unaryWords u ≡ Sym.generic slot ∷ [] → Sits M a (Generic slot) → LaidUnary u a (suc a)
-    abs : {a : ℕ} → Sits M a (Generic SPL) → Sits M (suc a) (Generic TCA) → LaidUnary Unary.abs a (suc (suc a))
+  pub data LaidUnary (u : Unary) : ℕ → ℕ → Type 0 where
+    plain : {p : Plain} {a b : ℕ} → unaryPlain u ≡ Option.some p → LaidPlain (p ∷ []) a b → LaidUnary u a b
+    abs : {a : ℕ} → unaryPlain u ≡ Option.none → Sits M a (Generic SPL) → Sits M (suc a) (Generic TCA) → LaidUnary u a (suc (suc a))
 
   pub data LaidUnaries : List Unary → ℕ → ℕ → Type 0 where
     none : {a : ℕ} → LaidUnaries [] a a
@@ -103,7 +110,7 @@ module _ (M : Map) where
     none : {a : ℕ} → LaidOperations [] a a
     binary : {o : tree.Operator} {c : Cell} {os : List Operation} {a m b : ℕ} → LaidOn (operatorCode o) c a m → LaidOperations os m b
         → LaidOperations (Operation.binary o c ∷ os) a b
-    shift : {s : tree.Shift} {n a b : ℕ} {os : List Operation} → Sits M a (Shift (shiftKind s) n) → LaidOperations os (suc a) b
+    shift : {s : tree.Shift} {n a m b : ℕ} {os : List Operation} → LaidPlain (shiftPlain s n ∷ []) a m → LaidOperations os m b
         → LaidOperations (Operation.shift s n ∷ os) a b
 
   -- the words after a CAS, from a to b; z is where the condition fails

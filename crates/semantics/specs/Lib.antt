@@ -4,7 +4,6 @@ pub mod Meaning
 pub mod Variables
 pub mod Agreement
 pub mod Examples
-pub mod WellFormed
 pub mod Laid
 pub mod Known
 pub mod EmissionLaws

@@ -4,31 +4,19 @@ use Prim.Native.Nat.{ℕ, zero, suc, _+_}
 use mathlib.Core.Bool.{Bool, true, false, cond}
 use mathlib.Core.List.{List, [], _∷_}
 use lib.Dec.{eqb}
+use Rattle.source.specs.Bytes.{given}
 use Rattle.word.specs.Arithmetic.{compareOf}
 use Rattle.instruction.specs.Code.{LDA}
-use Rattle.instruction.specs.Slot.{CRA, CMA, TCA, CHS, SSP, SSM, CSA, CAR, CAL, ICL, AOA, ACA, ICR, ICA}
+use Rattle.instruction.specs.Slot.{CRA}
 use Rattle.syntax.specs.Tree.{CellId, Unary, Operation, Relation, Expr, Term, Cond, Target, Stmt, Stmts, Item, Declaration, Program}
-use Rattle.syntax.specs.Emission.{operatorCode, shiftKind, testSlot, bareSlot}
+use Rattle.syntax.specs.Emission.{unaryPlain, operatorCode, shiftPlain, testSlot, bareSlot}
 use Rattle.semantics.specs.Trace.{State, Trace, bind, next, ended}
-use Rattle.semantics.specs.Acts.{Place, valueOf, tick, xCell, element, subscripted, reach, operate, storeA, setX, generic, absolute, shifted, test, jump, counted}
+use Rattle.semantics.specs.Acts.{Place, valueOf, tick, xCell, entered, reach, operate, storeA, setX, generic, absolute, plainOn, test, jump, counted}
 
 -- ---- Expressions
 
 unfoldable pub unaryOn : Unary → State → State
-unaryOn Unary.addc σ = generic ACA σ
-unaryOn Unary.inc σ = generic AOA σ
-unaryOn Unary.neg σ = generic TCA σ
-unaryOn Unary.ssp σ = generic SSP σ
-unaryOn Unary.ssm σ = generic SSM σ
-unaryOn Unary.chs σ = generic CHS σ
-unaryOn Unary.csa σ = generic CSA σ
-unaryOn Unary.not σ = generic CMA σ
-unaryOn Unary.icleft σ = generic ICL σ
-unaryOn Unary.cleft σ = generic CAL σ
-unaryOn Unary.swop σ = generic ICA σ
-unaryOn Unary.icright σ = generic ICR σ
-unaryOn Unary.cright σ = generic CAR σ
-unaryOn Unary.abs σ = absolute σ
+unaryOn u σ = given (unaryPlain u) (λ p. plainOn (p ∷ []) σ) (λ _. absolute σ)
 
 -- "right to left"
 unfoldable pub unariesOn : List Unary → State → State
@@ -37,7 +25,7 @@ unariesOn (u ∷ us) σ = unaryOn u (unariesOn us σ)
 
 unfoldable pub operationOn : Operation → State → Trace (Unit {0})
 operationOn (Operation.binary o c) σ = bind (reach c σ) (operate (operatorCode o))
-operationOn (Operation.shift s n) σ = Trace.done tt (shifted (shiftKind s) n σ)
+operationOn (Operation.shift s n) σ = Trace.done tt (plainOn (shiftPlain s n ∷ []) σ)
 
 -- "left to right"
 unfoldable pub operationsOn : List Operation → State → Trace (Unit {0})
@@ -137,7 +125,7 @@ forTurns (suc fuel) i body σ =
 
 unfoldable pub assigned : Target → State → Trace (Unit {0})
 assigned (Target.integer i) σ = storeA (CellId.named i) σ
-assigned (Target.item a s) σ = bind (element a (subscripted s σ)) storeA
+assigned (Target.item a s) σ = bind (entered a s σ) storeA
 
 -- "statements parted by `;`", one after the other
 unfoldable pub stmtsBy : (Stmt → State → Trace (Unit {0})) → Stmts → State → Trace (Unit {0})

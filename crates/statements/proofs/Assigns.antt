@@ -17,10 +17,12 @@ use Rattle.syntax.specs.Statements.{parseAssigned, parseSetX}
 use Rattle.syntax.specs.Expressions.{parseBracketed, parseCall}
 use Rattle.cells.specs.declared.Part.{Part}
 use Rattle.emitter.specs.Emitted.{Emitted, Bases}
-use Rattle.emitter.specs.Lays.{Code, Lays}
 use Rattle.expressions.specs.Compiles.{Compiles}
 use Rattle.statements.specs.Forms.{afterEqual, storedWords, loadedWords}
-use Rattle.statements.proofs.Laws.{then-then, within-form}
+use Rattle.cells.specs.Reads.{Reads}
+use Rattle.cells.specs.Reads.Reads.{read, fails}
+use Rattle.cells.proofs.Reading.{then-then}
+use Rattle.statements.proofs.Laws.{as-form}
 
 module _ (source : List ℕ) (names : Names) (expr : ℕ → Got Expr) (at : ℕ) where
   -- `=` expression as some statement
@@ -31,36 +33,36 @@ module _ (source : List ℕ) (names : Names) (expr : ℕ → Got Expr) (at : ℕ
   pub stored-as : {f : Bases} {a b : Emitted} {part : Part} (target : Target) → Compiles f (storedWords (targetCell target)) a b part (afterEqual source expr at)
       → Compiles f stmtWords a b part (parseAssigned source names expr (Stmt.assign target) at)
   unfolding storedWords stmtWords
-  stored-as target c = rw (assigned-as (Stmt.assign target)) (within-form (Stmt.assign target) c (λ e l. l))
+  stored-as target c = rw (assigned-as (Stmt.assign target)) (as-form (Stmt.assign target) (λ e l. l) c)
 
   pub to-a : {f : Bases} {a b : Emitted} {part : Part} → Compiles f exprWords a b part (afterEqual source expr at) → Compiles f stmtWords a b part (parseAssigned source names expr Stmt.toA at)
   unfolding stmtWords
-  to-a c = rw (assigned-as Stmt.toA) (within-form Stmt.toA c (λ e l. l))
+  to-a c = rw (assigned-as Stmt.toA) (as-form Stmt.toA (λ e l. l) c)
 
 module _ (source : List ℕ) (names : Names) (at : ℕ) where
   pub to-x : {f : Bases} {a b : Emitted} {part : Part} → Compiles f loadedWords a b part (afterEqual source (parseLoneCell source names) at) → Compiles f stmtWords a b part (parseSetX source names at)
   unfolding parseSetX afterEqual loadedWords stmtWords
   to-x c =
       rw (then-then (expect Kinds.equal source at) (λ _ n. parseLoneCell source names n) (λ cell n. got (Stmt.setX cell) n))
-      (within-form Stmt.setX c (λ e l. l))
+      (as-form Stmt.setX (λ e l. l) c)
 
 -- ---- Calls
 
--- the same words under another name
-module _ {A B : Type 0} {f : Bases} {words : A → Code} {words′ : B → Code} {a b : Emitted} {part : Part} where
-  relabel : {n : ℕ} (x : A) (y : B) → (Lays f a b (words x) → Lays f a b (words′ y)) → Compiles f words a b part (got x n) → Compiles f words′ a b part (got y n)
-  relabel {n} x y k (Compiles.read {t = t} {n = m} i p l) =
+-- what is got is known
+module _ {A B : Type 0} {done : A → Type 0} {done′ : B → Type 0} {kept : Type 0} {part : Part} where
+  relabel : {n : ℕ} (x : A) (y : B) → (done x → done′ y) → Reads done kept part (got x n) → Reads done′ kept part (got y n)
+  relabel {n} x y k (read {t = t} {n = m} i p l) =
       let e : t ≡ x = cc in
       let q : m ≡ n = cc in
-      Compiles.read refl (p ∙ ap Part.Read q) (k (subst (λ z. Lays f a b (words z)) e l))
-  relabel x y k (Compiles.fails i p) = absurd (let z : _≡_ {A = ℕ} 0 1 = cc in omega arith)
+      read refl (p ∙ ap Part.Read q) (k (subst done e l))
+  relabel x y k (fails i p w) = absurd (let z : _≡_ {A = ℕ} 0 1 = cc in omega arith)
 
-  refail : {k o : ℕ} → Compiles f words a b part (failed k o) → Compiles f words′ a b part (failed k o)
-  refail (Compiles.read i p l) = absurd (let z : _≡_ {A = ℕ} 0 1 = cc in omega arith)
-  refail {k} {o} (Compiles.fails {k = l} {at = m} i p) =
+  refail : {k o : ℕ} → Reads done kept part (failed k o) → Reads done′ kept part (failed k o)
+  refail (read i p l) = absurd (let z : _≡_ {A = ℕ} 0 1 = cc in omega arith)
+  refail {k} {o} (fails {k = l} {at = m} i p w) =
       let e : l ≡ k = cc in
       let q : m ≡ o = cc in
-      Compiles.fails refl (p ∙ ap₂ (λ x y. Part.Failed x y) e q)
+      fails refl (p ∙ ap₂ (λ x y. Part.Failed x y) e q) w
 
 -- a call has the same words as a statement and as a term
 module _ {f : Bases} {a b : Emitted} {part : Part} (source : List ℕ) (names : Names) (expr : ℕ → Got Expr) (p at : ℕ) where

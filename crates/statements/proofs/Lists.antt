@@ -1,13 +1,11 @@
 -- Statements parted by `;`, one after another. Assumes nothing.
-use Prim.Native.Nat.{ℕ, zero, suc, _+_, _-_}
-use mathlib.Core.Path.{_≡_, refl, sym, ap, _∙_}
+use Prim.Native.Nat.{ℕ, _+_, _-_}
+use mathlib.Core.Path.{_≡_, sym, ap, _∙_}
 use mathlib.Core.List.{List, []}
-use mathlib.Core.Option.{Option, none, some}
+use mathlib.Core.Option.{Option}
 use native.Mathlib.Nat.{add-zero}
-use native.Mathlib.Numerals.{sub-one}
-use borrow.Author.Tests.{ne-eqb}
+use borrow.Author.Tests.{eq-eqb, ne-eqb}
 use lib.ListN.{length}
-use Rattle.source.specs.Bytes.{whether}
 use Rattle.source.specs.Kinds
 use Rattle.source.specs.declared.Token.{Token}
 use Rattle.source.specs.Tokens.{tokenAt}
@@ -24,21 +22,21 @@ use Rattle.emitter.proofs.Lays as lays
 use Rattle.emitter.proofs.Ends as ends
 use Rattle.expressions.specs.Compiles.{Compiles}
 use Rattle.statements.specs.Forms.{followed}
-use Rattle.cells.proofs.Laws.{then-got, then-failed}
-use Rattle.statements.proofs.Laws.{then-then, followed-then, Reads, compiled, came, pass, done, within-form}
+use Rattle.cells.proofs.Laws.{then-got}
+use Rattle.cells.specs.Reads.Reads.{read}
+use Rattle.cells.proofs.Reading.{then-then, came, pass, repeat-zero, repeat-none, repeat-some, separated}
+use Rattle.statements.proofs.Laws.{followed-then, as-form}
 
 module _ {f : Bases} {a b : Emitted} {part : Part} (source : List ℕ) (names : Names) (inner : ℕ → Got Stmt) (at : ℕ) where
   pub compounded :
-      Reads (λ ss. Lays f a b (stmtsWords ss)) part (followed source Kinds.END (parseStmts source names inner at))
+      Compiles f stmtsWords a b part (followed source Kinds.END (parseStmts source names inner at))
       → Compiles f stmtWords a b part (parseCompound source names inner at)
   unfolding parseCompound stmtWords
-  compounded c = rw (followed-then source Kinds.END (parseStmts source names inner at) (λ ss n. got (Stmt.compound ss) n)) (within-form Stmt.compound (done c) (λ _ l. l))
+  compounded c = rw (followed-then source Kinds.END (parseStmts source names inner at) (λ ss n. got (Stmt.compound ss) n)) (as-form Stmt.compound (λ _ l. l) c)
 
 -- one more statement after a `;`
 pub more : List ℕ → (ℕ → Got Stmt) → Stmts → ℕ → Option (Got Stmts)
-more source stmt ss n =
-    let t = tokenAt source n in
-    whether (is Kinds.semicolon t) (λ _. some (andThen (stmt (t .next)) (λ s next. got (Stmts.more ss s) next))) (λ _. none)
+more source stmt = separated source Kinds.semicolon (λ ss n. andThen (stmt n) (λ s next. got (Stmts.more ss s) next))
 
 module _ (source : List ℕ) (names : Names) (stmt : ℕ → Got Stmt) where
   pub list-first : (at : ℕ) → parseStmts source names stmt at ≡ andThen (stmt at) (λ s n. repeatBy (more source stmt) (length source) (Stmts.one s) n)
@@ -47,21 +45,19 @@ module _ (source : List ℕ) (names : Names) (stmt : ℕ → Got Stmt) where
 
 module _ (source : List ℕ) (stmt : ℕ → Got Stmt) (ss : Stmts) (n : ℕ) where
   pub list-full : (k : ℕ) → k ≡ 0 → repeatBy (more source stmt) k ss n ≡ got ss n
-  unfolding repeatBy
-  list-full k e = rw e
+  list-full k e = repeat-zero (more source stmt) ss n e
 
   module _ (t : Token) (e : t ≡ tokenAt source n) where
     pub list-last : (k : ℕ) → (t .kind ≡ Kinds.semicolon → ⊥) → repeatBy (more source stmt) k ss n ≡ got ss n
-    unfolding repeatBy more
-    list-last zero q = refl
-    list-last (suc k) q = rw (← e, ne-eqb _ Kinds.semicolon q)
+    unfolding more
+    list-last k q = repeat-none (more source stmt) ss n k (rw (← e, ne-eqb _ Kinds.semicolon q))
 
     pub list-on :
         (k : ℕ) → (k ≡ 0 → ⊥) → t .kind ≡ Kinds.semicolon
         → repeatBy (more source stmt) k ss n ≡ andThen (stmt (t .next)) (λ s m. repeatBy (more source stmt) (k - 1) (Stmts.more ss s) m)
-    unfolding repeatBy more andThen
-    list-on zero z q = absurd (z refl)
-    list-on (suc k) z q = rw (sub-one, ← e, q) (sym (then-then (stmt (t .next)) (λ s m. got (Stmts.more ss s) m) (λ longer m. repeatBy (more source stmt) k longer m)))
+    unfolding more andThen
+    list-on k z q =
+        repeat-some (more source stmt) ss n k {g = andThen (stmt (t .next)) (λ s m. got (Stmts.more ss s) m)} z (rw (← e, eq-eqb _ _ q)) ∙ sym (then-then (stmt (t .next)) (λ s m. got (Stmts.more ss s) m) (λ longer m. repeatBy (more source stmt) (k - 1) longer m))
 
 -- what was emitted before a statement of the list, and the list with it
 pub record Before (f : Bases) (a b : Emitted) (source : List ℕ) (stmt : ℕ → Got Stmt) (k i : ℕ) (g : Got Stmts) : Type 0 where
@@ -84,18 +80,18 @@ module _ {f : Bases} {a b c : Emitted} {source : List ℕ} {stmt : ℕ → Got S
   with-one s l = lays.same (λ at. sym (h .words s at)) (lays.sequence (h .lays) l)
 
   pub list-fails : {j o : ℕ} → part ≡ Part.Failed j o → Compiles f stmtsWords a c part g
-  list-fails e = Compiles.fails (sym (h .same) ∙ then-failed _ (pass (compiled r) e)) e
+  list-fails e = pass _ r e (sym (h .same)) (lays.kept-then (h .lays .kept))
 
   pub list-ends : {n : ℕ} (e : part ≡ Part.Read n) → ((s : Stmt) → repeatBy (more source stmt) k (h .put s) n ≡ got (h .put s) n) → Compiles f stmtsWords a c part g
   list-ends e stop =
-      let s = came (compiled r) e in
-      Compiles.read (sym (h .same) ∙ then-got _ (s .is) ∙ stop (s .tree)) e (with-one (s .tree) (s .holds))
+      let s = came r e in
+      read (sym (h .same) ∙ then-got _ (s .is) ∙ stop (s .tree)) e (with-one (s .tree) (s .holds))
 
   pub before-next :
       {n : ℕ} (t : Token) → t ≡ tokenAt source n → part ≡ Part.Read n → (k ≡ 0 → ⊥) → t .kind ≡ Kinds.semicolon → Before f a c source stmt (k - 1) (t .next) g
   unfolding stmtsWords
   before-next {n} t is e z q =
-      let s = came (compiled r) e in
+      let s = came r e in
       let ss = h .put (s .tree) in
       record {
         put = Stmts.more ss;

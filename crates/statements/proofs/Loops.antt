@@ -18,15 +18,15 @@ use Rattle.syntax.specs.Tree.{Id, Operand, Expr, Stmt}
 use Rattle.syntax.specs.Symbols.{Names, asInteger}
 use Rattle.syntax.specs.Parse.{Got, andThen, failAt, is, expect}
 use Rattle.syntax.specs.Parse.Got.{got, failed}
-use Rattle.syntax.specs.Emission.{Sym, _⧺_, cellWords, exprEnd, exprWords, stmtWords}
+use Rattle.syntax.specs.Emission.{Sym, _⧺_, reachWords, orderWord, cellWords, exprEnd, exprWords, stmtWords}
 use Rattle.syntax.specs.Cells.{refuse, nameAs, parseLoneCell}
 use Rattle.syntax.specs.Statements.{parseBody, parseFor, parseForInteger, parseForX}
-use Rattle.operands.specs.declared.Id.{Id as CodeId}
-use Rattle.operands.specs.Trees.{treeId}
+use Rattle.symbols.specs.declared.Id.{Id as CodeId}
+use Rattle.symbols.specs.Trees.{treeId, treeSymbol}
 use Rattle.cells.specs.declared.Part.{Part}
-use Rattle.cells.specs.declared.Symbol.{Symbol}
-use Rattle.cells.specs.Answers.{partOf, symbolAt, treeSymbol}
-use Rattle.cells.proofs.Symbol.{the-type}
+use Rattle.symbols.specs.declared.Symbol.{Symbol}
+use Rattle.cells.specs.Answers.{partOf, symbolAt}
+use Rattle.symbols.proofs.Symbol.{the-type}
 use Rattle.emitter.specs.Emitted.{Emitted, Bases, withWord, emitWord, emitAll}
 use Rattle.emission.specs.Map.{reference}
 use Rattle.emitter.proofs.Words as words
@@ -37,7 +37,8 @@ use Rattle.expressions.specs.Compiles.{Compiles}
 use Rattle.statements.specs.Forms.{followed, afterEqual, Head, loopOf, counterOf, parseHead, storedWords, loadedWords, headWords, Heads}
 use Rattle.cells.proofs.Laws.{then-failed}
 use Rattle.cells.proofs.Names.{name-as}
-use Rattle.statements.proofs.Laws.{then-then, Reads, within-form}
+use Rattle.cells.specs.Reads.Reads.{fails}
+use Rattle.cells.proofs.Reading.{then-then, reads-as}
 use Rattle.statements.proofs.Branches.{same-here}
 
 -- ---- The head of a `.FOR`
@@ -45,7 +46,7 @@ use Rattle.statements.proofs.Branches.{same-here}
 -- a name used as an integer
 named-integer : (source : List ℕ) (names : Names) (t : Token) → nameAs source names asInteger t ≡ asInteger (symbolAt source names t)
 unfolding asInteger
-named-integer = name-as asInteger refl
+named-integer = name-as asInteger refl (λ v. refl)
 
 no-integer : (s : Symbol) → OneOf (1 ∷ 2 ∷ 3 ∷ 4 ∷ 5 ∷ []) (tagOf the-type s) → asInteger (treeSymbol s) ≡ none
 unfolding asInteger treeSymbol
@@ -94,22 +95,12 @@ module _ {f : Bases} {a b : Emitted} {part : Part} where
   pub heads :
       {A : Type 0} {words : A → Code} {g : Got A} {g′ : Got Head} (h : A → Head) (i : Id) → ((x : A) → i ≡ counterOf (h x)) → ((x : A) (at : ℕ) → words x at ≡ headWords (h x) at)
       → g′ ≡ andThen g (λ x n. got (h x) n) → Compiles f words a b part g → Heads f a b part i g′
-  unfolding andThen
-  heads {A} {g = g} h i counts words q c =
-      record { compiles = rw q (within-form h c (λ x l. lays.same (words x) l)); counts = λ e. go g (sym q ∙ e) }
-    where
-      go : (x : Got A) {y : Head} {n : ℕ} → andThen x (λ x n. got (h x) n) ≡ got y n → i ≡ counterOf y
-      go (got t m) {y} {n} e = let q : h t ≡ y = cc in counts t ∙ ap counterOf q
-      go (failed k o) {y} {n} e = absurd (let z : _≡_ {A = ℕ} 0 1 = cc in omega arith)
+  heads h i counts words q c = reads-as h c refl q (λ x l. (lays.same (words x) l, counts x)) (λ w. w)
 
-  -- no head
-  pub no-head : {i : Id} {g′ : Got Head} (t : Token) → g′ ≡ refuse t → part ≡ partOf {A = ℕ} (refuse t) → Heads f a b part i g′
-  unfolding partOf
-  no-head t q p =
-      record {
-        compiles = Compiles.fails (q ∙ refuse-is Head t) (p ∙ ap partOf (refuse-is ℕ t));
-        counts = λ e. absurd (let z : _≡_ {A = ℕ} 0 1 = cc (q, refuse-is Head t) in omega arith);
-      }
+-- no head
+pub no-head : {f : Bases} {a : Emitted} {part : Part} {i : Id} {g′ : Got Head} (t : Token) → g′ ≡ refuse t → part ≡ partOf {A = ℕ} (refuse t) → Heads f a a part i g′
+unfolding partOf
+no-head t q p = fails (q ∙ refuse-is Head t) (p ∙ ap partOf (refuse-is ℕ t)) lays.kept-here
 
 -- ---- The loop
 
@@ -147,20 +138,12 @@ module _ (source : List ℕ) (names : Names) (expr : ℕ → Got Expr) (inner : 
       go false (some i) = loop-as expr (Head.integer i) (t .next)
       go false none = refused
 
--- a head, with the integer that it counts
-pub headed : {f : Bases} {a b : Emitted} {part : Part} {i : Id} {g : Got Head} → Heads f a b part i g → Reads (λ h. Lays f a b (headWords h) × (i ≡ counterOf h)) part g
-headed {f} {a} {b} {part} {i} {g} h = go (h .compiles)
-  where
-    go : Compiles f headWords a b part g → Reads (λ x. Lays f a b (headWords x) × (i ≡ counterOf x)) part g
-    go (Compiles.read e p l) = Reads.read e p (l, h .counts e)
-    go (Compiles.fails e p) = Reads.fails e p
-
 -- the words after the body
 abbrev lastWords : Head → ℕ → List Sym
 lastWords h to = Sym.memory IRS (Operand.named (counterOf h)) ∷ Sym.jump to ∷ []
 
 loop-words : (h : Head) (s : Stmt) (at : ℕ) → headWords h at ⧺ stmtWords s (at + length (headWords h at)) ⧺ lastWords h (at + length (headWords h at)) ≡ stmtWords (loopOf h s) at
-unfolding headWords storedWords loadedWords cellWords loopOf counterOf stmtWords _⧺_
+unfolding headWords storedWords loadedWords reachWords orderWord cellWords loopOf counterOf stmtWords _⧺_
 loop-words (Head.integer i e) s at =
     let sets = Sym.memory STA (Operand.named i) ∷ [] in
     let l = lays.append-length (exprWords e at) sets in

@@ -5,24 +5,25 @@ use mathlib.Core.List.{List}
 use Rattle.source.specs.Bytes.{whether, given}
 use Rattle.source.specs.Kinds
 use Rattle.source.specs.declared.Token.{Token}
+use Rattle.source.specs.Tokens.{tokenAt}
 use Rattle.instruction.specs.Code.{STA, LDX}
-use Rattle.syntax.specs.Tree.{Id, Operand, Cell, Expr, Stmt}
+use Rattle.syntax.specs.Tree.{Id, Array, Operand, Cell, Expr, Cond, Stmt, Stmts}
 use Rattle.syntax.specs.Symbols.{Names, asInteger}
 use Rattle.syntax.specs.Parse.{Got, andThen, is, expect}
 use Rattle.syntax.specs.Parse.Got.{got}
-use Rattle.syntax.specs.Emission.{_⧺_, cellWords, exprWords, stmtWords}
+use Rattle.syntax.specs.Emission.{Sym, _⧺_, cellWords, condEnd, exprWords, condWords, stmtWords}
 use Rattle.syntax.specs.Cells.{refuse, nameAs, parseLoneCell}
-use Rattle.syntax.specs.Expressions as exprs
 use Rattle.syntax.specs.Statements as stmts
-use Rattle.symbols.specs.Table.{heldBy}
 use Rattle.cells.specs.declared.Part.{Part}
 use Rattle.cells.specs.Answers.{partOf}
+use Rattle.cells.specs.Reads.{Reads}
 use Rattle.emitter.specs.declared.Context.{Context}
 use Rattle.emitter.specs.declared.Output.{Output}
-use Rattle.emitter.specs.Emitted.{Emitted, Bases, emittedBy, basesOf}
-use Rattle.emitter.specs.Lays.{Code}
+use Rattle.emitter.specs.Emitted.{Emitted, Bases}
+use Rattle.emitter.specs.Lays.{Code, Kept, Lays}
 use Rattle.expressions.specs.declared.Answer.{Answer}
-use Rattle.expressions.specs.Compiles.{Compiles}
+use Rattle.expressions.specs.declared.Tested.{Tested}
+use Rattle.expressions.specs.Compiles.{Does, Decides, namesAt, exprAt}
 
 -- ---- What is parsed
 
@@ -74,24 +75,55 @@ unfoldable pub headWords : Head → Code
 headWords (Head.integer i e) at = storedWords (Cell.plain (Operand.named i)) e at
 headWords (Head.hash c) at = loadedWords c at
 
--- ---- Contracts
+-- a condition and the statement that it guards, by where the condition goes if it fails
+unfoldable pub guardedWords : Cond × Stmt → ℕ → ℕ → List Sym
+guardedWords part at z = condWords (part .0) at z ⧺ stmtWords (part .1) (condEnd (part .0) at)
 
--- a part compiled on an image
-abbrev pub Does : {A : Type 0} → (A → Code) → Context → Output → List ℕ → List ℕ → Answer → Got A → Type 0
-Does words context output before after r g = Compiles (basesOf context) words (emittedBy output before) (emittedBy (r .output) after) (r .part) g
+-- ---- Contracts
 
 -- a statement
 abbrev pub Stated : Context → Output → List ℕ → List ℕ → Answer → Got Stmt → Type 0
 Stated = Does stmtWords
 
--- the expressions and the statements of a level
-abbrev pub exprAt : List ℕ → Context → List ℕ → ℕ → ℕ → Got Expr
-exprAt source context table left = exprs.parseExpr source (heldBy (context .names) table) left
+-- a guarded part
+abbrev pub Guards : Context → Output → List ℕ → List ℕ → Tested → Got (Cond × Stmt) → Type 0
+Guards = Decides guardedWords
 
-abbrev pub stmtAt : List ℕ → Context → List ℕ → ℕ → ℕ → Got Stmt
-stmtAt source context table left = stmts.parseStmt source (heldBy (context .names) table) left
+-- the definition of each form, at the levels that are left for its own expressions and for the statements in it
+module _ (source : List ℕ) (context : Context) (table : List ℕ) where
+  abbrev pub stmtAt : ℕ → ℕ → Got Stmt
+  stmtAt left = stmts.parseStmt source (namesAt context table) left
+
+  abbrev pub guardedAt : ℕ → ℕ → ℕ → ℕ → Got (Cond × Stmt)
+  guardedAt word left inner at = stmts.parseGuarded source (namesAt context table) (exprAt source context table left) (stmtAt inner) word at
+
+  abbrev pub elementAt : ℕ → Array → ℕ → Got Stmt
+  elementAt left array at = stmts.parseElement source (namesAt context table) (exprAt source context table left) array at
+
+  abbrev pub headAt : ℕ → ℕ → Got Head
+  headAt left at = parseHead source (namesAt context table) (exprAt source context table left) (tokenAt source at)
+
+  abbrev pub ifAt : ℕ → ℕ → ℕ → Got Stmt
+  ifAt left inner at = stmts.parseIf source (namesAt context table) (exprAt source context table left) (stmtAt inner) at
+
+  abbrev pub whenAt : ℕ → ℕ → ℕ → Got Stmt
+  whenAt left inner at = stmts.parseWhen source (namesAt context table) (exprAt source context table left) (stmtAt inner) at
+
+  abbrev pub whileAt : ℕ → ℕ → ℕ → Got Stmt
+  whileAt left inner at = stmts.parseWhile source (namesAt context table) (exprAt source context table left) (stmtAt inner) at
+
+  abbrev pub forAt : ℕ → ℕ → ℕ → Got Stmt
+  forAt left inner at = stmts.parseFor source (namesAt context table) (exprAt source context table left) (stmtAt inner) (tokenAt source at)
+
+  abbrev pub stmtsAt : ℕ → ℕ → Got Stmts
+  stmtsAt left at = stmts.parseStmts source (namesAt context table) (stmtAt left) at
+
+  abbrev pub compoundAt : ℕ → ℕ → Got Stmt
+  compoundAt inner at = stmts.parseCompound source (namesAt context table) (stmtAt inner) at
+
+  abbrev pub formAt : ℕ → ℕ → stmts.StmtStart → ℕ → Got Stmt
+  formAt left inner start at = stmts.stmtFrom source (namesAt context table) (exprAt source context table left) (stmtAt inner) start at
 
 -- a head, with what it counts
-pub record Heads (f : Bases) (a b : Emitted) (part : Part) (counter : Id) (g : Got Head) : Type 0 where
-  pub compiles : Compiles f headWords a b part g
-  pub counts : {h : Head} {n : ℕ} → g ≡ got h n → counter ≡ counterOf h
+abbrev pub Heads : Bases → Emitted → Emitted → Part → Id → Got Head → Type 0
+Heads f a b part counter g = Reads (λ h. Lays f a b (headWords h) × (counter ≡ counterOf h)) (Kept a b) part g

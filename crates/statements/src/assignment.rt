@@ -9,18 +9,17 @@ use emitter::emit_cell;
 use expressions::Answer;
 use expressions::expression;
 use instruction::code;
-use operands::Array;
-use operands::Cell;
-use operands::Id;
-use operands::Operand;
 use source::kind;
+use symbols::Array;
+use symbols::Cell;
+use symbols::Id;
+use symbols::Operand;
 ghost use mathlib.Core.Path.{_≡_};
 ghost use Rattle.syntax.specs.Emission.{exprWords};
 ghost use Rattle.syntax.specs.Cells.{parseLoneCell};
-ghost use Rattle.syntax.specs.Statements.{parseElement};
-ghost use Rattle.symbols.specs.Table.{heldBy};
-ghost use Rattle.operands.specs.Trees.{treeArray, treeCell};
-ghost use Rattle.statements.specs.Forms.{afterEqual, storedWords, loadedWords, Does, Stated, exprAt};
+ghost use Rattle.symbols.specs.Trees.{treeArray, treeCell};
+ghost use Rattle.expressions.specs.Compiles.{Does, namesAt, exprAt};
+ghost use Rattle.statements.specs.Forms.{afterEqual, storedWords, loadedWords, Stated, elementAt};
 
 // `=` expression.
 pub fn assigned(
@@ -32,7 +31,8 @@ pub fn assigned(
     left: usize,
     output: Output,
 ) -> Answer
-    ensures { λ r. ⌜ Does exprWords context output (now (image .entry)) (now (image .exit)) r (afterEqual (now (source .entry)) (exprAt (now (source .entry)) context (now (table .entry)) left) at) ⌝ }
+    ensures { λ r. ⌜ Does exprWords context output (now (image .entry)) (now (image .exit)) r
+        (afterEqual (now (source .entry)) (exprAt (now (source .entry)) context (now (table .entry)) left) at) ⌝ }
 {
     let part = expect(source, kind::EQUAL, at);
     let Part::Read { next } = part else {
@@ -61,7 +61,8 @@ pub fn store(
     left: usize,
     output: Output,
 ) -> Answer
-    ensures { λ r. ⌜ Does (storedWords (treeCell cell)) context output (now (image .entry)) (now (image .exit)) r (afterEqual (now (source .entry)) (exprAt (now (source .entry)) context (now (table .entry)) left) at) ⌝ }
+    ensures { λ r. ⌜ Does (storedWords (treeCell cell)) context output (now (image .entry)) (now (image .exit)) r
+        (afterEqual (now (source .entry)) (exprAt (now (source .entry)) context (now (table .entry)) left) at) ⌝ }
 {
     let value = assigned(source, table, image, context, at, left, output);
     let part = value.part;
@@ -87,7 +88,8 @@ pub fn element(
     left: usize,
     output: Output,
 ) -> Answer
-    ensures { λ r. ⌜ Stated context output (now (image .entry)) (now (image .exit)) r (parseElement (now (source .entry)) (heldBy (context .names) (now (table .entry))) (exprAt (now (source .entry)) context (now (table .entry)) left) (treeArray array) at) ⌝ }
+    ensures { λ r. ⌜ Stated context output (now (image .entry)) (now (image .exit)) r
+        (elementAt (now (source .entry)) context (now (table .entry)) left (treeArray array) at) ⌝ }
 {
     let found = subscript_at(source, table, context.names, at);
     let part = found.part;
@@ -108,7 +110,8 @@ pub fn set_x(
     at: usize,
     output: Output,
 ) -> Answer
-    ensures { λ r. ⌜ Does loadedWords context output (now (image .entry)) (now (image .exit)) r (afterEqual (now (source .entry)) (parseLoneCell (now (source .entry)) (heldBy (context .names) (now (table .entry)))) at) ⌝ }
+    ensures { λ r. ⌜ Does loadedWords context output (now (image .entry)) (now (image .exit)) r
+        (afterEqual (now (source .entry)) (parseLoneCell (now (source .entry)) (namesAt context (now (table .entry)))) at) ⌝ }
 {
     let part = expect(source, kind::EQUAL, at);
     let Part::Read { next } = part else {

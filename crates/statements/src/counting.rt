@@ -2,20 +2,18 @@
 use crate::assignment::plain;
 use crate::assignment::set_x;
 use crate::assignment::store;
-use cells::Symbol;
 use cells::refuse_at;
 use cells::symbol_at;
 use emitter::Context;
 use emitter::Output;
 use expressions::Answer;
-use operands::Id;
 use source::kind;
 use source::token_at;
-ghost use Rattle.source.specs.Tokens.{tokenAt};
-ghost use Rattle.symbols.specs.Table.{heldBy};
-ghost use Rattle.operands.specs.Trees.{treeId};
+use symbols::Id;
+use symbols::Symbol;
+ghost use Rattle.symbols.specs.Trees.{treeId};
 ghost use Rattle.emitter.specs.Emitted.{emittedBy, basesOf};
-ghost use Rattle.statements.specs.Forms.{parseHead, exprAt, Heads};
+ghost use Rattle.statements.specs.Forms.{headAt, Heads};
 
 // What stands before a `.DO`: its answer, and the integer that is counted.
 pub struct Head {
@@ -33,7 +31,9 @@ pub fn for_head(
     left: usize,
     output: Output,
 ) -> Head
-    ensures { λ r. ⌜ Heads (basesOf context) (emittedBy output (now (image .entry))) (emittedBy (r .answer .output) (now (image .exit))) (r .answer .part) (treeId (r .id)) (parseHead (now (source .entry)) (heldBy (context .names) (now (table .entry))) (exprAt (now (source .entry)) context (now (table .entry)) left) (tokenAt (now (source .entry)) at)) ⌝ }
+    ensures { λ r. ⌜ Heads (basesOf context) (emittedBy output (now (image .entry))) (emittedBy (r .answer .output) (now (image .exit)))
+        (r .answer .part) (treeId (r .id))
+        (headAt (now (source .entry)) context (now (table .entry)) left at) ⌝ }
 {
     let t = token_at(source, at);
     let next = t.next;

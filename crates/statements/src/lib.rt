@@ -1,4 +1,4 @@
-// Statements: parsed and emitted in one go. Where a part fails, its failure is answered at once, and nothing is said of what is emitted.
+// Statements: parsed and emitted in one go. Where a part fails, its failure is answered at once; of what is emitted then, `Kept` holds.
 use crate::assignment::assigned;
 use crate::assignment::element;
 use crate::assignment::plain;
@@ -17,23 +17,21 @@ use emitter::emit_jump;
 use emitter::emit_memory;
 use emitter::fill_jump;
 use expressions::Answer;
+use expressions::Tested;
 use expressions::call;
 use expressions::condition;
 use expressions::relation::emit_hole;
 use instruction::code;
-use operands::Operand;
 use source::Token;
 use source::kind;
 use source::token_at;
+use symbols::Operand;
 ghost use mathlib.Core.Path.{_≡_};
-ghost use Rattle.source.specs.Tokens.{tokenAt};
 ghost use Rattle.syntax.specs.Emission.{stmtsWords};
-ghost use Rattle.syntax.specs.Statements.{endsStatement, parseIf, parseWhen, parseWhile, parseFor, parseStmts, parseCompound, stmtFrom, parseOutermost};
-ghost use Rattle.symbols.specs.Table.{heldBy};
+ghost use Rattle.syntax.specs.Statements.{endsStatement, parseOutermost};
 ghost use Rattle.cells.specs.Answers.{treeStatementStart};
-ghost use Rattle.emitter.specs.Emitted.{emittedBy, basesOf};
-ghost use Rattle.expressions.specs.Compiles.{Compiles};
-ghost use Rattle.statements.specs.Forms.{followedPart, Does, Stated, exprAt, stmtAt};
+ghost use Rattle.expressions.specs.Compiles.{Does, namesAt};
+ghost use Rattle.statements.specs.Forms.{followedPart, Stated, Guards, stmtAt, guardedAt, ifAt, whenAt, whileAt, forAt, stmtsAt, compoundAt, formAt};
 
 mod assignment;
 mod counting;
@@ -62,7 +60,51 @@ fn ends_statement(t: Token) -> bool
     }
 }
 
-// `.IF` condition `.THEN` statement `.ELSE` statement. `left` is how many levels are left for this statement, its own among them; `inner` for those in it.
+// A condition, the word after it, and the statement that it guards; the jump where it fails is not filled in yet.
+// `left` is how many levels are left for this statement, its own among them; `inner` for those in it.
+fn guarded(
+    source: &[u8],
+    table: &[u16],
+    image: &mut [u16],
+    context: Context,
+    word: u16,
+    at: usize,
+    left: usize,
+    inner: usize,
+    output: Output,
+) -> Tested
+    ensures { λ r. ⌜ Guards context output (now (image .entry)) (now (image .exit)) r
+        (guardedAt (now (source .entry)) context (now (table .entry)) word left inner at) ⌝ }
+{
+    let test = condition(source, table, image, context, at, left, output);
+    let tested = test.part;
+    let after_test = test.output;
+    let part = followed_by(source, tested, word);
+    let Part::Read { next } = part else {
+        return Tested {
+            part,
+            output: after_test,
+            hole: 0,
+        };
+    };
+    let body = statement(source, table, image, context, next, inner, after_test);
+    let part = body.part;
+    let after_body = body.output;
+    let Part::Read { next: _ } = part else {
+        return Tested {
+            part,
+            output: after_body,
+            hole: 0,
+        };
+    };
+    Tested {
+        part,
+        output: after_body,
+        hole: test.hole,
+    }
+}
+
+// `.IF` condition `.THEN` statement `.ELSE` statement.
 fn if_statement(
     source: &[u8],
     table: &[u16],
@@ -73,32 +115,39 @@ fn if_statement(
     inner: usize,
     output: Output,
 ) -> Answer
-    ensures { λ r. ⌜ Stated context output (now (image .entry)) (now (image .exit)) r (parseIf (now (source .entry)) (heldBy (context .names) (now (table .entry))) (exprAt (now (source .entry)) context (now (table .entry)) left) (stmtAt (now (source .entry)) context (now (table .entry)) inner) at) ⌝ }
+    ensures { λ r. ⌜ Stated context output (now (image .entry)) (now (image .exit)) r
+        (ifAt (now (source .entry)) context (now (table .entry)) left inner at) ⌝ }
 {
-    let test = condition(source, table, image, context, at, left, output);
-    let tested = test.part;
-    let held = test.output;
-    let part = followed_by(source, tested, kind::THEN);
-    let Part::Read { next } = part else {
-        return Answer { part, output: held };
-    };
-    let first = statement(source, table, image, context, next, inner, held);
+    let first = guarded(
+        source,
+        table,
+        image,
+        context,
+        kind::THEN,
+        at,
+        left,
+        inner,
+        output,
+    );
     let done = first.part;
-    let laid = first.output;
+    let after_first = first.output;
     let part = followed_by(source, done, kind::ELSE);
-    let Part::Read { next: from } = part else {
-        return Answer { part, output: laid };
+    let Part::Read { next } = part else {
+        return Answer {
+            part,
+            output: after_first,
+        };
     };
-    let end = emit_hole(image, laid);
-    let over = end.output;
-    fill_jump(image, test.hole, over.code);
-    let second = statement(source, table, image, context, from, inner, over);
+    let end = emit_hole(image, after_first);
+    let after_jump = end.output;
+    fill_jump(image, first.hole, after_jump.code);
+    let second = statement(source, table, image, context, next, inner, after_jump);
     let part = second.part;
     let Part::Read { next: _ } = part else {
         return second;
     };
-    let last = second.output;
-    fill_jump(image, end.hole, last.code);
+    let after_second = second.output;
+    fill_jump(image, end.hole, after_second.code);
     second
 }
 
@@ -113,23 +162,33 @@ fn when_statement(
     inner: usize,
     output: Output,
 ) -> Answer
-    ensures { λ r. ⌜ Stated context output (now (image .entry)) (now (image .exit)) r (parseWhen (now (source .entry)) (heldBy (context .names) (now (table .entry))) (exprAt (now (source .entry)) context (now (table .entry)) left) (stmtAt (now (source .entry)) context (now (table .entry)) inner) at) ⌝ }
+    ensures { λ r. ⌜ Stated context output (now (image .entry)) (now (image .exit)) r
+        (whenAt (now (source .entry)) context (now (table .entry)) left inner at) ⌝ }
 {
-    let test = condition(source, table, image, context, at, left, output);
-    let tested = test.part;
-    let held = test.output;
-    let part = followed_by(source, tested, kind::THEN);
-    let Part::Read { next } = part else {
-        return Answer { part, output: held };
-    };
-    let body = statement(source, table, image, context, next, inner, held);
-    let part = body.part;
+    let all = guarded(
+        source,
+        table,
+        image,
+        context,
+        kind::THEN,
+        at,
+        left,
+        inner,
+        output,
+    );
+    let part = all.part;
+    let after_body = all.output;
     let Part::Read { next: _ } = part else {
-        return body;
+        return Answer {
+            part,
+            output: after_body,
+        };
     };
-    let last = body.output;
-    fill_jump(image, test.hole, last.code);
-    body
+    fill_jump(image, all.hole, after_body.code);
+    Answer {
+        part,
+        output: after_body,
+    }
 }
 
 // `.WHILE` condition `.DO` statement.
@@ -143,25 +202,35 @@ fn while_statement(
     inner: usize,
     output: Output,
 ) -> Answer
-    ensures { λ r. ⌜ Stated context output (now (image .entry)) (now (image .exit)) r (parseWhile (now (source .entry)) (heldBy (context .names) (now (table .entry))) (exprAt (now (source .entry)) context (now (table .entry)) left) (stmtAt (now (source .entry)) context (now (table .entry)) inner) at) ⌝ }
+    ensures { λ r. ⌜ Stated context output (now (image .entry)) (now (image .exit)) r
+        (whileAt (now (source .entry)) context (now (table .entry)) left inner at) ⌝ }
 {
     let start = output.code;
-    let test = condition(source, table, image, context, at, left, output);
-    let tested = test.part;
-    let held = test.output;
-    let part = followed_by(source, tested, kind::DO);
-    let Part::Read { next } = part else {
-        return Answer { part, output: held };
-    };
-    let body = statement(source, table, image, context, next, inner, held);
-    let part = body.part;
+    let all = guarded(
+        source,
+        table,
+        image,
+        context,
+        kind::DO,
+        at,
+        left,
+        inner,
+        output,
+    );
+    let part = all.part;
+    let after_body = all.output;
     let Part::Read { next: _ } = part else {
-        return body;
+        return Answer {
+            part,
+            output: after_body,
+        };
     };
-    let laid = body.output;
-    let back = emit_jump(image, laid, start);
-    fill_jump(image, test.hole, back.code);
-    Answer { part, output: back }
+    let after_jump = emit_jump(image, after_body, start);
+    fill_jump(image, all.hole, after_jump.code);
+    Answer {
+        part,
+        output: after_jump,
+    }
 }
 
 // `.FOR` integer or `#` = its first value, `.DO` statement.
@@ -175,27 +244,34 @@ fn for_statement(
     inner: usize,
     output: Output,
 ) -> Answer
-    ensures { λ r. ⌜ Stated context output (now (image .entry)) (now (image .exit)) r (parseFor (now (source .entry)) (heldBy (context .names) (now (table .entry))) (exprAt (now (source .entry)) context (now (table .entry)) left) (stmtAt (now (source .entry)) context (now (table .entry)) inner) (tokenAt (now (source .entry)) at)) ⌝ }
+    ensures { λ r. ⌜ Stated context output (now (image .entry)) (now (image .exit)) r
+        (forAt (now (source .entry)) context (now (table .entry)) left inner at) ⌝ }
 {
     let head = for_head(source, table, image, context, at, left, output);
     let first = head.answer;
     let counted = first.part;
-    let held = first.output;
+    let after_head = first.output;
     let id = head.id;
     let part = followed_by(source, counted, kind::DO);
     let Part::Read { next } = part else {
-        return Answer { part, output: held };
+        return Answer {
+            part,
+            output: after_head,
+        };
     };
-    let start = held.code;
-    let body = statement(source, table, image, context, next, inner, held);
+    let start = after_head.code;
+    let body = statement(source, table, image, context, next, inner, after_head);
     let part = body.part;
     let Part::Read { next: _ } = part else {
         return body;
     };
-    let laid = body.output;
-    let one_more = emit_memory(image, context, laid, code::IRS, Operand::Named { id });
-    let back = emit_jump(image, one_more, start);
-    Answer { part, output: back }
+    let after_body = body.output;
+    let after_count = emit_memory(image, context, after_body, code::IRS, Operand::Named { id });
+    let after_jump = emit_jump(image, after_count, start);
+    Answer {
+        part,
+        output: after_jump,
+    }
 }
 
 // Statements of a level, parted by `;`. Each `;` takes a byte, so the source has as many bytes as there are turns.
@@ -208,7 +284,8 @@ fn listed(
     left: usize,
     output: Output,
 ) -> Answer
-    ensures { λ r. ⌜ Does stmtsWords context output (now (image .entry)) (now (image .exit)) r (parseStmts (now (source .entry)) (heldBy (context .names) (now (table .entry))) (stmtAt (now (source .entry)) context (now (table .entry)) left) at) ⌝ }
+    ensures { λ r. ⌜ Does stmtsWords context output (now (image .entry)) (now (image .exit)) r
+        (stmtsAt (now (source .entry)) context (now (table .entry)) left at) ⌝ }
 {
     let mut turns = source.len();
     let mut i = at;
@@ -243,7 +320,8 @@ fn compound(
     inner: usize,
     output: Output,
 ) -> Answer
-    ensures { λ r. ⌜ Stated context output (now (image .entry)) (now (image .exit)) r (parseCompound (now (source .entry)) (heldBy (context .names) (now (table .entry))) (stmtAt (now (source .entry)) context (now (table .entry)) inner) at) ⌝ }
+    ensures { λ r. ⌜ Stated context output (now (image .entry)) (now (image .exit)) r
+        (compoundAt (now (source .entry)) context (now (table .entry)) inner at) ⌝ }
 {
     let all = listed(source, table, image, context, at, inner, output);
     let done = all.part;
@@ -264,7 +342,8 @@ fn form(
     inner: usize,
     output: Output,
 ) -> Answer
-    ensures { λ r. ⌜ Stated context output (now (image .entry)) (now (image .exit)) r (stmtFrom (now (source .entry)) (heldBy (context .names) (now (table .entry))) (exprAt (now (source .entry)) context (now (table .entry)) left) (stmtAt (now (source .entry)) context (now (table .entry)) inner) (treeStatementStart start) at) ⌝ }
+    ensures { λ r. ⌜ Stated context output (now (image .entry)) (now (image .exit)) r
+        (formAt (now (source .entry)) context (now (table .entry)) left inner (treeStatementStart start) at) ⌝ }
 {
     match start {
         Start::Integer { id } => store(source, table, image, context, plain(id), at, left, output),
@@ -329,7 +408,8 @@ pub fn statements(
     at: usize,
     output: Output,
 ) -> Answer
-    ensures { λ r. ⌜ Compiles (basesOf context) stmtsWords (emittedBy output (now (image .entry))) (emittedBy (r .output) (now (image .exit))) (r .part) (parseOutermost (now (source .entry)) (heldBy (context .names) (now (table .entry))) at) ⌝ }
+    ensures { λ r. ⌜ Does stmtsWords context output (now (image .entry)) (now (image .exit)) r
+        (parseOutermost (now (source .entry)) (namesAt context (now (table .entry))) at) ⌝ }
 {
     listed(source, table, image, context, at, LEVELS, output)
 }

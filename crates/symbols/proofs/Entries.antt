@@ -1,65 +1,50 @@
--- What a table below a place holds, and that each kind's words give it back. Assumes nothing.
-use Prim.Native.Nat.{ℕ, zero, suc, _+_, _*_, _/_, _≤_, _<_}
+-- What a table below a place holds, and that each symbol's words give it back. Assumes nothing.
+use Prim.Native.Nat.{ℕ, zero, suc, _+_, _*_, _/_, _-_, _≤_, _<_}
 use mathlib.Core.Path.{_≡_, refl, sym, ap, ap₂, _∙_}
-use mathlib.Core.Bool.{Bool, true, false}
+use mathlib.Core.Bool.{true, false}
 use mathlib.Core.List.{List, [], _∷_}
-use mathlib.Core.Option.{Option, none, some}
+use mathlib.Core.Option.{some}
 use native.Mathlib.Omega.{arith}
 use borrow.Author.Tests.{le-leb, lt-ltb, le-ltb}
-use native.Mathlib.Numerals.{add-one}
+use native.Mathlib.Numerals.{add-one, sub-one}
 use lib.ListN.{length, getD, set, take, length-set}
 use lib.Seq.{getD-take, getD-set-same, getD-set-other, take-set-le}
-use Rattle.source.specs.Bytes.{whether, sameBytes, find, given}
-use Rattle.syntax.specs.Tree.{Id, Array, Name, Item}
-use Rattle.syntax.specs.Symbols.{Symbol, Level, Entry, Names, Scope, isX, symbolOf, sameLevel, itemSymbol}
-use Rattle.syntax.specs.Declarations.{isTaken}
+use Rattle.syntax.specs.Tree.{Item}
+use Rattle.syntax.specs.Symbols.{Symbol, Level, Scope, nextId, itemSymbol}
 use Rattle.symbols.specs.declared.Packed.{Packed}
-use Rattle.symbols.specs.declared.Kind.{Kind}
 use Rattle.symbols.specs.Packing.{unpack}
-use Rattle.symbols.specs.Table.{codeOf, numberOf, valueOf, kindOf, levelOf, levelWord, symbolFrom, entryOf, rowAt, entriesOf, heldBy, entryIn, stored, withRow, tableWith, Declared, itemKind}
+use Rattle.symbols.specs.Table.{numberOf, dataOf, levelOf, symbolFrom, atLevel, entryOf, entryAt, rowAt, entriesOf, heldBy, nthIn, stored, withRow, tableWith, Declared}
 
 -- ---- Words of what is declared
 
-pub kind-coded : (k : Kind) → kindOf (codeOf k) (numberOf k) (valueOf k) ≡ k
-unfolding kindOf codeOf numberOf valueOf
-kind-coded (Kind.Integer n) = refl
-kind-coded (Kind.Constant n v) = refl
-kind-coded (Kind.Compconstant v) = refl
-kind-coded (Kind.Array n size) = refl
-kind-coded (Kind.Procedure n true) = refl
-kind-coded (Kind.Procedure n false) = refl
-kind-coded Kind.Unknown = refl
+-- a symbol's words give it back at their level
+pub symbol-coded : (level : Level) (s : Symbol) → symbolFrom level (dataOf s) ≡ atLevel level s
+unfolding symbolFrom dataOf atLevel
+symbol-coded level (Symbol.integer i) = refl
+symbol-coded level (Symbol.constant i v) = refl
+symbol-coded level (Symbol.compconstant v) = refl
+symbol-coded level (Symbol.array a) = refl
+symbol-coded level (Symbol.procedure p true) = refl
+symbol-coded level (Symbol.procedure p false) = refl
+symbol-coded level Symbol.unknown = refl
 
-pub level-coded : (level : Level) → levelOf (levelWord level) ≡ level
-unfolding levelOf levelWord
-level-coded Level.outer = refl
-level-coded (Level.inner p) = refl
+next-number : (level : Level) (n : ℕ) → numberOf (nextId level n) ≡ n
+unfolding numberOf nextId
+next-number Level.outer n = refl
+next-number (Level.inner p) n = refl
 
--- each symbol that a declaration makes has a kind: an item; an array; a procedure; the procedure that is being read
-pub item-entry : (scope : Scope) (item : Item) → entryOf (levelWord (scope .level)) (itemKind (scope .words) item) ≡ record { level = scope .level; symbol = itemSymbol scope item }
-unfolding entryOf symbolFrom itemKind itemSymbol
-item-entry scope Item.integer = rw (level-coded (scope .level))
-item-entry scope (Item.constant v) = rw (level-coded (scope .level))
-item-entry scope (Item.compconstant v) = rw (level-coded (scope .level))
-
-module _ (level : Level) where
-  pub array-entry : (a : Array) → entryOf (levelWord level) (Kind.Array (a .number) (a .size)) ≡ record { level = level; symbol = Symbol.array a }
-  unfolding entryOf symbolFrom
-  array-entry a = rw (level-coded level)
-
-  pub procedure-entry : (p : ℕ) (accumulator : Bool) → entryOf (levelWord level) (Kind.Procedure p accumulator) ≡ record { level = level; symbol = Symbol.procedure p accumulator }
-  unfolding entryOf symbolFrom
-  procedure-entry p accumulator = rw (level-coded level)
-
-  pub unknown-entry : entryOf (levelWord level) Kind.Unknown ≡ record { level = level; symbol = Symbol.unknown }
-  unfolding entryOf symbolFrom
-  unknown-entry = rw (level-coded level)
+-- an item's symbol is of its scope's level, and does not turn on the names
+pub item-level : (s u : Scope) (item : Item) → s .level ≡ u .level → s .words ≡ u .words → atLevel (u .level) (itemSymbol s item) ≡ itemSymbol u item
+unfolding atLevel itemSymbol
+item-level s u Item.integer p q = rw (p, q, next-number (u .level) (u .words))
+item-level s u (Item.constant v) p q = rw (p, q, next-number (u .level) (u .words))
+item-level s u (Item.compconstant v) p q = refl
 
 -- ---- Tables
 
 -- tables that agree in an entry's words agree in the entry
 row-same : (t u : List ℕ) (at : ℕ) → ((i : ℕ) → i < at + 7 → getD t i 0 ≡ getD u i 0) → rowAt t at ≡ rowAt u at
-unfolding rowAt
+unfolding rowAt entryAt
 row-same t u at h =
     rw (
       h at (omega arith),
@@ -95,6 +80,12 @@ pub held-all : (n : ℕ) (t : List ℕ) → 7 * n ≤ length t → heldBy n t �
 unfolding heldBy
 held-all n t h = rw (le-leb n (length t / 7) (omega arith))
 
+-- the row of a number that is not 0
+pub nth-is : (t : List ℕ) (n : ℕ) → (n ≡ 0 → ⊥) → nthIn t n ≡ some (rowAt t (7 * (n - 1)))
+unfolding nthIn
+nth-is t zero h = absurd (h refl)
+nth-is t (suc n) h = rw sub-one
+
 -- ---- An entry's words
 
 stored-below : (t : List ℕ) (at k : ℕ) (ws : List ℕ) (i : ℕ) → i < at + k → getD (stored t at k ws) i 0 ≡ getD t i 0
@@ -116,20 +107,20 @@ unfolding stored
 stored-take n t at k [] h = refl
 stored-take n t at k (w ∷ ws) h = stored-take n (set t (at + k) w) at (suc k) ws (omega arith) ∙ take-set-le n t (at + k) w h
 
-module _ (t : List ℕ) (at : ℕ) (name : Packed) (level : ℕ) (kind : Kind) where
-  row-take : take at (withRow t at name level kind) ≡ take at t
+module _ (t : List ℕ) (at : ℕ) (name : Packed) (level : ℕ) (symbol : Symbol) where
+  row-take : take at (withRow t at name level (dataOf symbol)) ≡ take at t
   unfolding withRow
   row-take = stored-take at (set t at (name .one)) at 1 _ (omega arith) ∙ take-set-le at t at (name .one) (omega arith)
 
-  row-is : at + 7 ≤ length t → rowAt (withRow t at name level kind) at ≡ (unpack name, entryOf level kind)
-  unfolding rowAt withRow
-  row-is h = rw (first, later 0 (omega arith), later 1 (omega arith), later 2 (omega arith), later 3 (omega arith), later 4 (omega arith), later 5 (omega arith), kind-coded kind)
+  row-is : at + 7 ≤ length t → rowAt (withRow t at name level (dataOf symbol)) at ≡ (unpack name, entryOf level symbol)
+  unfolding rowAt entryAt entryOf withRow
+  row-is h = rw (first, later 0 (omega arith), later 1 (omega arith), later 2 (omega arith), later 3 (omega arith), later 4 (omega arith), later 5 (omega arith), symbol-coded (levelOf level) symbol)
     where
       t₁ : List ℕ
       t₁ = set t at (name .one)
 
       ws : List ℕ
-      ws = name .two ∷ name .three ∷ level ∷ codeOf kind ∷ numberOf kind ∷ valueOf kind ∷ []
+      ws = name .two ∷ name .three ∷ level ∷ dataOf symbol .code ∷ dataOf symbol .number ∷ dataOf symbol .value ∷ []
 
       first : getD (stored t₁ at 1 ws) at 0 ≡ name .one
       first = stored-below t₁ at 1 ws at (omega arith) ∙ getD-set-same t at (name .one) 0 (omega arith)
@@ -138,43 +129,16 @@ module _ (t : List ℕ) (at : ℕ) (name : Packed) (level : ℕ) (kind : Kind) w
       later j l = stored-in t₁ at 1 ws (at + suc j) j (omega arith) l (simp length-set (omega arith))
 
 -- DECLARING: a table with room has the new entry as its newest, and each table keeps the older ones
-module _ (n : ℕ) (t : List ℕ) (name : Packed) (level : ℕ) (kind : Kind) where
-  pub with-room : 7 * n + 7 ≤ length t → tableWith n t name level kind ≡ withRow t (7 * n) name level kind
-  unfolding tableWith
-  with-room h = rw (lt-ltb n (length t / 7) (omega arith))
-
-  pub without-room : length t / 7 ≤ n → tableWith n t name level kind ≡ t
-  unfolding tableWith
-  without-room h = rw (le-ltb n (length t / 7) h)
-
-  with-newest : 7 * n + 7 ≤ length t → entriesOf (n + 1) (withRow t (7 * n) name level kind) ≡ (unpack name, entryOf level kind) ∷ entriesOf n t
+module _ (n : ℕ) (t : List ℕ) (name : Packed) (level : ℕ) (symbol : Symbol) where
+  with-newest : 7 * n + 7 ≤ length t → entriesOf (n + 1) (withRow t (7 * n) name level (dataOf symbol)) ≡ (unpack name, entryOf level symbol) ∷ entriesOf n t
   unfolding entriesOf
   with-newest h =
-      rw add-one (ap₂ (λ x y. x ∷ y) (row-is t (7 * n) name level kind h) (entries-kept n n (withRow t (7 * n) name level kind) t (omega arith) (row-take t (7 * n) name level kind)))
+      rw add-one (ap₂ (λ x y. x ∷ y) (row-is t (7 * n) name level symbol h) (entries-kept n n (withRow t (7 * n) name level (dataOf symbol)) t (omega arith) (row-take t (7 * n) name level symbol)))
 
-  pub declared-room : 7 * n + 7 ≤ length t → Declared n t name level kind (withRow t (7 * n) name level kind)
-  declared-room h = record { words = sym (with-room h); newest = λ _. with-newest h; kept = row-take t (7 * n) name level kind }
+  pub declared-room : 7 * n + 7 ≤ length t → Declared n t name level symbol (withRow t (7 * n) name level (dataOf symbol))
+  unfolding tableWith
+  declared-room h = record { words = rw (lt-ltb n (length t / 7) (omega arith)); newest = λ _. with-newest h; kept = row-take t (7 * n) name level symbol }
 
-  pub declared-full : length t / 7 ≤ n → Declared n t name level kind t
-  declared-full h = record { words = sym (without-room h); newest = λ l. absurd (omega arith); kept = refl }
-
--- ---- The answer is the definition's
-
--- what the definitions ask of the row that they find, they ask of its entry
-given-entry : {B : Type 0} (names : Names) (name : Name) (f : Entry → B) (g : Unit {0} → B) → given (find (sameBytes name) names) (λ row. f (row .1)) g ≡ given (entryIn names name) f g
-unfolding entryIn
-given-entry {B} names name f g = go (find (sameBytes name) names)
-  where
-    go : (o : Option (Name × Entry)) → given o (λ row. f (row .1)) g ≡ given (given o (λ row. some (row .1)) (λ _. none)) f g
-    go none = refl
-    go (some row) = refl
-
--- what a name stands for
-pub symbol-of : (names : Names) (name : Name) → symbolOf names name ≡ whether (isX name) (λ _. Symbol.integer Id.x) (λ _. given (entryIn names name) (λ e. e .symbol) (λ _. Symbol.unknown))
-unfolding symbolOf
-symbol-of names name = ap (λ s. whether (isX name) (λ _. Symbol.integer Id.x) (λ _. s)) (given-entry names name (λ e. e .symbol) (λ _. Symbol.unknown))
-
--- "name twice at one level, or X declared"
-pub is-taken : (scope : Scope) (name : Name) → isTaken scope name ≡ whether (isX name) (λ _. true) (λ _. given (entryIn (scope .names) name) (λ e. sameLevel (e .level) (scope .level)) (λ _. false))
-unfolding isTaken
-is-taken scope name = ap (λ s. whether (isX name) (λ _. true) (λ _. s)) (given-entry (scope .names) name (λ e. sameLevel (e .level) (scope .level)) (λ _. false))
+  pub declared-full : length t / 7 ≤ n → Declared n t name level symbol t
+  unfolding tableWith
+  declared-full h = record { words = rw (le-ltb n (length t / 7) h); newest = λ l. absurd (omega arith); kept = refl }

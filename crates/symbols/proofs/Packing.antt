@@ -1,6 +1,6 @@
 -- Packing loses nothing: three words give back their name, a name its three words, and names pack alike exactly if they are the same. Assumes nothing.
 use Prim.Native.Nat.{ℕ, zero, suc, _+_, _*_, _/_, _%_, _≤_, _<_}
-use mathlib.Core.Path.{_≡_, refl, sym, ap, ap₂, _∙_}
+use mathlib.Core.Path.{_≡_, refl, sym, ap, _∙_}
 use mathlib.Core.Bool.{Bool, true, false, _&&_, _||_}
 use mathlib.Core.List.{List, [], _∷_}
 use native.Mathlib.Omega.{arith}
@@ -8,6 +8,7 @@ use lib.ListN.{length, getD}
 use lib.Dec.{eqb, leb}
 use borrow.Author.Tests.{eqb-true, eq-eqb, ne-eqb, leb-true}
 use Rattle.source.specs.Bytes.{whether, isLetterOrDigit, sameBytes}
+use Rattle.source.proofs.Same.{equal}
 use Rattle.syntax.specs.Tree.{Name}
 use Rattle.syntax.specs.Symbols.{isX}
 use Rattle.symbols.specs.declared.Packed.{Packed}
@@ -35,20 +36,14 @@ trimmed-at (b ∷ bs) i = go (trimmed bs) (trimmed-at bs) i
 whole : (w : ℕ) → 256 * (w / 256) + w % 256 ≡ w
 whole w = omega arith
 
+words-same : (a b c d e f : ℕ) → a ≡ d → b ≡ e → c ≡ f → _≡_ {A = Packed} (record { one = a; two = b; three = c }) (record { one = d; two = e; three = f })
+words-same a b c d e f x y z = rw (x, y, z)
+
 pub pack-unpack : (p : Packed) → packOf (unpack p) ≡ p
 unfolding packOf unpack
 pack-unpack p =
-    rw (
-      trimmed-at (sixBytes p) 0,
-      trimmed-at (sixBytes p) 1,
-      trimmed-at (sixBytes p) 2,
-      trimmed-at (sixBytes p) 3,
-      trimmed-at (sixBytes p) 4,
-      trimmed-at (sixBytes p) 5,
-      whole (p .one),
-      whole (p .two),
-      whole (p .three),
-    )
+    rw (trimmed-at (sixBytes p) 0, trimmed-at (sixBytes p) 1, trimmed-at (sixBytes p) 2, trimmed-at (sixBytes p) 3, trimmed-at (sixBytes p) 4, trimmed-at (sixBytes p) 5)
+    (words-same _ _ _ _ _ _ (whole (p .one)) (whole (p .two)) (whole (p .three)))
 
 -- ---- A name gives back itself
 
@@ -140,21 +135,9 @@ unfolding sameBytes
 same-self [] = refl
 same-self (b ∷ bs) = rw (eq-eqb b b refl) (same-self bs)
 
-same-is : (bs cs : List ℕ) → sameBytes bs cs ≡ true → bs ≡ cs
-unfolding sameBytes
-same-is [] [] h = refl
-same-is [] (c ∷ cs) h = let z : _≡_ {A = ℕ} 0 1 = cc in absurd (omega arith)
-same-is (b ∷ bs) [] h = let z : _≡_ {A = ℕ} 0 1 = cc in absurd (omega arith)
-same-is (b ∷ bs) (c ∷ cs) h =
-    let f = both (eqb b c) (sameBytes bs cs) h in
-    ap₂ (λ x y. x ∷ y) (eqb-true b c (f .0)) (same-is bs cs (f .1))
-
 packed-self : (p : Packed) → samePacked p p ≡ true
 unfolding samePacked
 packed-self p = rw (eq-eqb (p .one) (p .one) refl, eq-eqb (p .two) (p .two) refl) (eq-eqb (p .three) (p .three) refl)
-
-words-same : (a b c d e f : ℕ) → a ≡ d → b ≡ e → c ≡ f → _≡_ {A = Packed} (record { one = a; two = b; three = c }) (record { one = d; two = e; three = f })
-words-same a b c d e f x y z = rw (x, y, z)
 
 packed-is : (p q : Packed) → samePacked p q ≡ true → p ≡ q
 unfolding samePacked
@@ -174,7 +157,7 @@ pub same-unpacked : (p q : Packed) → samePacked p q ≡ sameBytes (unpack p) (
 same-unpacked p q =
     same-test (samePacked p q) (sameBytes (unpack p) (unpack q))
     (λ h. ap (λ x. sameBytes (unpack x) (unpack q)) (packed-is p q h) ∙ same-self (unpack q))
-    (λ h. ap (λ x. samePacked x q) (sym (pack-unpack p) ∙ ap packOf (same-is (unpack p) (unpack q) h) ∙ pack-unpack q) ∙ packed-self q)
+    (λ h. ap (λ x. samePacked x q) (sym (pack-unpack p) ∙ ap packOf (equal (unpack p) (unpack q) (rw h tt)) ∙ pack-unpack q) ∙ packed-self q)
 
 -- "X is predeclared"
 pub x-packed : (p : Packed) → isX (unpack p) ≡ samePacked p (record { one = 0o054000; two = 0; three = 0 })

@@ -8,9 +8,8 @@ use Rattle.source.specs.Kinds
 use Rattle.source.specs.Tokens.{token, nameOf}
 use Rattle.syntax.specs.Tree.{Id}
 use Rattle.syntax.specs.Symbols.{Symbol, Level, nextId}
-use Rattle.symbols.specs.declared.Kind.{Kind}
 use Rattle.symbols.specs.Packing.{packOf, trimmed, beforeTrimmed, unpack}
-use Rattle.symbols.specs.Table.{kindOf, levelOf, symbolFrom, entryOf, rowAt, entriesOf, heldBy, entryIn, codeOf, numberOf, valueOf, stored, withRow, tableWith}
+use Rattle.symbols.specs.Table.{numberOf, dataOf, levelOf, symbolFrom, entryAt, rowAt, entriesOf, heldBy, stored, withRow, tableWith}
 
 packed : packOf (bytes "TOTAL") ≡ record { one = 0o052117; two = 0o052101; three = 0o046000 }
 unfolding packOf
@@ -34,23 +33,23 @@ held :
     ≡ (bytes "A", record { level = Level.inner 4; symbol = Symbol.constant (Id.local 4 0) 9 })
     ∷ (bytes "A", record { level = Level.outer; symbol = Symbol.integer (Id.global 3) })
     ∷ []
-unfolding table entriesOf rowAt unpack trimmed beforeTrimmed entryOf levelOf symbolFrom kindOf nextId
+unfolding table entriesOf rowAt unpack trimmed beforeTrimmed entryAt levelOf symbolFrom nextId
 held = refl
 
 -- "a local hides a global"
-newest : entryIn (heldBy 2 table) (bytes "A") ≡ some (record { level = Level.inner 4; symbol = Symbol.constant (Id.local 4 0) 9 })
-unfolding table heldBy entryIn entriesOf rowAt unpack trimmed beforeTrimmed entryOf levelOf symbolFrom kindOf nextId find sameBytes
+newest : find (sameBytes (bytes "A")) (heldBy 2 table) ≡ some (bytes "A", record { level = Level.inner 4; symbol = Symbol.constant (Id.local 4 0) 9 })
+unfolding table heldBy entriesOf rowAt unpack trimmed beforeTrimmed entryAt levelOf symbolFrom nextId find sameBytes
 newest = refl
 
-too-short : entryIn (heldBy 3 table) (bytes "A") ≡ none
-unfolding table heldBy entryIn find
+too-short : find (sameBytes (bytes "A")) (heldBy 3 table) ≡ none
+unfolding table heldBy find
 too-short = refl
 
 -- the first entry of that table declared; without room nothing is stored
-declared : tableWith 0 (0 ∷ 0 ∷ 0 ∷ 0 ∷ 0 ∷ 0 ∷ 0 ∷ 1 ∷ []) (packOf (bytes "A")) 0 (Kind.Integer 3) ≡ 0o040400 ∷ 0 ∷ 0 ∷ 0 ∷ 1 ∷ 3 ∷ 0 ∷ 1 ∷ []
-unfolding tableWith withRow stored packOf codeOf numberOf valueOf
+declared : tableWith 0 (0 ∷ 0 ∷ 0 ∷ 0 ∷ 0 ∷ 0 ∷ 0 ∷ 1 ∷ []) (packOf (bytes "A")) 0 (Symbol.integer (Id.global 3)) ≡ 0o040400 ∷ 0 ∷ 0 ∷ 0 ∷ 1 ∷ 3 ∷ 0 ∷ 1 ∷ []
+unfolding tableWith withRow stored packOf dataOf numberOf
 declared = refl
 
-no-room : tableWith 1 (0 ∷ 0 ∷ 0 ∷ 0 ∷ 0 ∷ 0 ∷ 0 ∷ 1 ∷ []) (packOf (bytes "A")) 0 (Kind.Integer 3) ≡ 0 ∷ 0 ∷ 0 ∷ 0 ∷ 0 ∷ 0 ∷ 0 ∷ 1 ∷ []
+no-room : tableWith 1 (0 ∷ 0 ∷ 0 ∷ 0 ∷ 0 ∷ 0 ∷ 0 ∷ 1 ∷ []) (packOf (bytes "A")) 0 (Symbol.integer (Id.global 3)) ≡ 0 ∷ 0 ∷ 0 ∷ 0 ∷ 0 ∷ 0 ∷ 0 ∷ 1 ∷ []
 unfolding tableWith
 no-room = refl

@@ -1,18 +1,22 @@
 // The symbol table: the live names in lent scratch words, ENTRY words each, the newest last. A name is packed once and compared packed.
+// Also what a name stands for, and what a cell is made of, as parsing hands it to emission: values only, no addresses.
 ghost use mathlib.Core.Path.{_≡_};
 ghost use Prim.Native.Nat.{_+_, _≤_, _<_};
 ghost use lib.ListN.{length, replicate};
 ghost use Rattle.source.specs.Tokens.{nameOf};
-ghost use Rattle.syntax.specs.Symbols.{isX};
+ghost use Rattle.syntax.specs.Symbols.{isX, symbolOf, nextId};
+ghost use Rattle.syntax.specs.Declarations.{isTaken};
+ghost use Rattle.symbols.specs.Trees.{treeId, treeSymbol};
 ghost use Rattle.symbols.specs.Packing.{samePacked, packedAt, pair, packOf, unpack};
-ghost use Rattle.symbols.specs.Table.{entryWords, kindOf, DataOf, foundAt, FoundIn, Declared};
+ghost use Rattle.symbols.specs.Table.{entryWords, numberOf, dataOf, levelOf, entryAt, heldBy, Newest, Declared};
 use source::Token;
 use source::byte::name_byte;
 
-// Words of an entry: the packed name, the level, and a code, a number and a value that give the kind.
+// Words of an entry: the packed name, the level, and a code, a number and a value that give the symbol.
+// The level is 0 for a global, and 1 more than its procedure's number for a local.
 const ENTRY: usize = 7;
 
-// The codes of the kinds; UNKNOWN and any other are a name that nothing is known of.
+// The codes of the symbols; UNKNOWN and any other are a name that nothing is known of.
 const INTEGER: u16 = 1;
 
 const CONSTANT: u16 = 2;
@@ -30,6 +34,44 @@ const UNKNOWN: u16 = 0;
 // X and no second character.
 const X: u16 = 0o054000;
 
+// An integer or a named constant: X; the number of a global; its procedure's number, and its own among the locals.
+pub enum Id {
+    X,
+    Global { number: u16 },
+    Local { procedure: u16, number: u16 },
+}
+
+pub struct Array {
+    pub number: u16,
+    pub size: u16,
+}
+
+pub enum Operand {
+    Named { id: Id },
+    Literal { value: u16 },
+}
+
+// By a word, or `#`, which is X as it is.
+pub enum Subscript {
+    By { operand: Operand },
+    Hash,
+}
+
+pub enum Cell {
+    Plain { operand: Operand },
+    Item { array: Array, subscript: Subscript },
+}
+
+// What a name stands for. A procedure's number counts with the globals.
+pub enum Symbol {
+    Integer { id: Id },
+    Constant { id: Id, value: u16 },
+    Compconstant { value: u16 },
+    Array { array: Array },
+    Procedure { number: u16, accumulator: bool },
+    Unknown,
+}
+
 // The first six characters of a name, two a word, 0 where there is none.
 pub struct Packed {
     pub one: u16,
@@ -37,27 +79,11 @@ pub struct Packed {
     pub three: u16,
 }
 
-// What a name stands for. A number counts among the names of its level that take a word.
-pub enum Kind {
-    Integer { number: u16 },
-    Constant { number: u16, value: u16 },
-    Compconstant { value: u16 },
-    Array { number: u16, size: u16 },
-    Procedure { number: u16, accumulator: bool },
-    Unknown,
-}
-
-// A kind as words.
+// A symbol as words.
 pub struct Data {
     pub code: u16,
     pub number: u16,
     pub value: u16,
-}
-
-// The entry of a name. Its level is 0 for a global, and 1 more than its procedure's number for a local.
-pub enum Found {
-    At { level: u16, kind: Kind },
-    Nothing,
 }
 
 // All zeros.
@@ -93,7 +119,7 @@ pub fn pack(source: &[u8], name: Token) -> Packed
 }
 
 // Whether the name is X.
-pub fn is_x(name: Packed) -> bool
+fn is_x(name: Packed) -> bool
     ensures { λ r. ⌜ r ≡ isX (unpack name) ⌝ }
 {
     if name.one == X {
@@ -104,62 +130,57 @@ pub fn is_x(name: Packed) -> bool
     false
 }
 
-// The kind that words give; words that no kind has give Unknown.
-fn kind_of(code: u16, number: u16, value: u16) -> Kind
-    ensures { λ r. ⌜ r ≡ kindOf code number value ⌝ }
+// The id of a number at a level.
+pub fn id_of(level: u16, number: u16) -> Id
+    ensures { λ r. ⌜ treeId r ≡ nextId (levelOf level) number ⌝ }
 {
-    if code == INTEGER {
-        Kind::Integer { number }
-    } else if code == CONSTANT {
-        Kind::Constant { number, value }
-    } else if code == COMPCONSTANT {
-        Kind::Compconstant { value }
-    } else if code == ARRAY {
-        Kind::Array {
+    if level == 0 {
+        return Id::Global { number };
+    }
+    let procedure = level - 1;
+    Id::Local { procedure, number }
+}
+
+// What an id counts at its level.
+fn number_of(id: Id) -> u16
+    ensures { λ r. ⌜ r ≡ numberOf (treeId id) ⌝ }
+{
+    match id {
+        Id::X => 0,
+        Id::Global { number } => number,
+        Id::Local {
+            procedure: _,
             number,
-            size: value,
-        }
-    } else if code == PROCEDURE {
-        Kind::Procedure {
-            number,
-            accumulator: false,
-        }
-    } else if code == FUNCTION {
-        Kind::Procedure {
-            number,
-            accumulator: true,
-        }
-    } else {
-        Kind::Unknown
+        } => number,
     }
 }
 
-// The words of a kind.
-fn data_of(kind: Kind) -> Data
-    ensures { λ r. ⌜ DataOf kind r ⌝ }
+// The words of a symbol.
+fn data_of(symbol: Symbol) -> Data
+    ensures { λ r. ⌜ r ≡ dataOf (treeSymbol symbol) ⌝ }
 {
-    match kind {
-        Kind::Integer { number } => Data {
+    match symbol {
+        Symbol::Integer { id } => Data {
             code: INTEGER,
-            number,
+            number: number_of(id),
             value: 0,
         },
-        Kind::Constant { number, value } => Data {
+        Symbol::Constant { id, value } => Data {
             code: CONSTANT,
-            number,
+            number: number_of(id),
             value,
         },
-        Kind::Compconstant { value } => Data {
+        Symbol::Compconstant { value } => Data {
             code: COMPCONSTANT,
             number: 0,
             value,
         },
-        Kind::Array { number, size } => Data {
+        Symbol::Array { array } => Data {
             code: ARRAY,
-            number,
-            value: size,
+            number: array.number,
+            value: array.size,
         },
-        Kind::Procedure {
+        Symbol::Procedure {
             number,
             accumulator,
         } => Data {
@@ -167,7 +188,7 @@ fn data_of(kind: Kind) -> Data
             number,
             value: 0,
         },
-        Kind::Unknown => Data {
+        Symbol::Unknown => Data {
             code: UNKNOWN,
             number: 0,
             value: 0,
@@ -188,41 +209,94 @@ fn is_named(table: &[u16], at: usize, name: Packed) -> bool
     false
 }
 
-// The entry at an offset.
-fn entry_at(table: &[u16], at: usize) -> Found
+// What the entry at an offset stands for; words that no symbol has give Unknown.
+fn symbol_at(table: &[u16], at: usize) -> Symbol
     requires { ⌜ at + entryWords ≤ length (now table) ⌝ }
-    ensures { λ r. ⌜ r ≡ foundAt (now (table .entry)) at ⌝ }
+    ensures { λ r. ⌜ treeSymbol r ≡ entryAt (now (table .entry)) at .symbol ⌝ }
 {
-    let kind = kind_of(table[at + 4], table[at + 5], table[at + 6]);
-    Found::At {
-        level: table[at + 3],
-        kind,
+    let level = table[at + 3];
+    let code = table[at + 4];
+    let number = table[at + 5];
+    let value = table[at + 6];
+    let id = id_of(level, number);
+    match code {
+        INTEGER => Symbol::Integer { id },
+        CONSTANT => Symbol::Constant { id, value },
+        COMPCONSTANT => Symbol::Compconstant { value },
+        ARRAY => Symbol::Array {
+            array: Array {
+                number,
+                size: value,
+            },
+        },
+        PROCEDURE => Symbol::Procedure {
+            number,
+            accumulator: false,
+        },
+        FUNCTION => Symbol::Procedure {
+            number,
+            accumulator: true,
+        },
+        _ => Symbol::Unknown,
     }
 }
 
-// The newest of the first `count` entries with the name. A table too short for them has nothing.
-pub fn find(table: &[u16], count: usize, name: Packed) -> Found
-    ensures { λ r. ⌜ FoundIn count (now (table .entry)) name r ⌝ }
+// The number, from 1, of the newest of the first `count` entries with the name; 0 for none. A table too short for them has none.
+fn newest(table: &[u16], count: usize, name: Packed) -> usize
+    ensures { λ r. ⌜ Newest count (now (table .entry)) name r ⌝ }
 {
     if table.len() / ENTRY < count {
-        return Found::Nothing;
+        return 0;
     }
     let mut i = count;
     while 0 < i {
-        i -= 1;
-        if is_named(table, ENTRY * i, name) {
-            return entry_at(table, ENTRY * i);
+        if is_named(table, ENTRY * (i - 1), name) {
+            return i;
         }
+        i -= 1;
     }
-    Found::Nothing
+    0
+}
+
+// What a name stands for, by the table's first `count` entries.
+pub fn find(table: &[u16], count: usize, name: Packed) -> Symbol
+    ensures { λ r. ⌜ treeSymbol r ≡ symbolOf (heldBy count (now (table .entry))) (unpack name) ⌝ }
+{
+    if is_x(name) {
+        return Symbol::Integer { id: Id::X };
+    }
+    let i = newest(table, count, name);
+    if i == 0 {
+        return Symbol::Unknown;
+    }
+    symbol_at(table, ENTRY * (i - 1))
+}
+
+// Whether a name is declared at a level, or X.
+pub fn is_taken(table: &[u16], count: usize, name: Packed, level: u16) -> bool
+    ensures { λ r. ⌜ r ≡ isTaken (record { names = heldBy count (now (table .entry)); level = levelOf level; words = 0 }) (unpack name) ⌝ }
+{
+    if is_x(name) {
+        return true;
+    }
+    let i = newest(table, count, name);
+    if i == 0 {
+        return false;
+    }
+    if table[ENTRY * (i - 1) + 3] == 0 {
+        level == 0
+    } else {
+        level != 0
+    }
 }
 
 // An entry above the first `count`, which stay; what stood above them is dropped. A table without room stays as it is.
-pub fn declare(table: &mut [u16], count: usize, name: Packed, level: u16, kind: Kind)
-    ensures { λ _. ⌜ Declared count (now (table .entry)) name level kind (now (table .exit)) ⌝ }
+// An id in the entry is of the entry's level, whatever level the symbol's has.
+pub fn declare(table: &mut [u16], count: usize, name: Packed, level: u16, symbol: Symbol)
+    ensures { λ _. ⌜ Declared count (now (table .entry)) name level (treeSymbol symbol) (now (table .exit)) ⌝ }
 {
     if count < table.len() / ENTRY {
-        let data = data_of(kind);
+        let data = data_of(symbol);
         let at = ENTRY * count;
         table[at] = name.one;
         table[at + 1] = name.two;

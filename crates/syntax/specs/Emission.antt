@@ -1,7 +1,9 @@
 -- Words laid: the symbolic words of each form, and the address after a form that is laid from an address on. Document 01's "Words laid".
 use Prim.Native.Nat.{ℕ, suc, _+_}
 use mathlib.Core.List.{List, [], _∷_}
+use mathlib.Core.Option.{Option, some, none}
 use lib.ListN.{length}
+use Rattle.source.specs.Bytes.{given}
 use Rattle.word.specs.Shift.{LGR, ARS, ARR, LGL, ALS, ALR}
 use Rattle.instruction.specs.Code.{LDA, ANA, STA, ERA, ADD, SUB, JST, CAS, IRS, LDX}
 use Rattle.instruction.specs.Slot.{HLT, SKP, NOP, SRC, SSC, SS1, SS2, SS3, SS4, SSS, SSR, SZE, SNZ, SPL, SMI, SLZ, SLN, CRA, CMA, TCA, CHS, SSP, SSM, CSA, CAR, CAL, ICL, AOA, ACA, ICR, ICA}
@@ -34,28 +36,50 @@ unfoldable pub subscriptWords : Array → Subscript → List Sym
 subscriptWords a (Subscript.by o) = Sym.memory LDX o ∷ []
 subscriptWords a Subscript.hash = []
 
--- "then the order with indirect"
+-- what reaches a cell
+unfoldable pub reachWords : Cell → List Sym
+reachWords (Cell.plain o) = []
+reachWords (Cell.item a s) = subscriptWords a s
+
+-- the instruction on it: "then the order with indirect"
+unfoldable pub orderWord : ℕ → Cell → Sym
+orderWord code (Cell.plain o) = Sym.memory code o
+orderWord code (Cell.item a s) = Sym.through code (a .number)
+
 unfoldable pub cellWords : ℕ → Cell → List Sym
-cellWords code (Cell.plain o) = Sym.memory code o ∷ []
-cellWords code (Cell.item a s) = subscriptWords a s ⧺ Sym.through code (a .number) ∷ []
+cellWords code c = reachWords c ⧺ orderWord code c ∷ []
 
 -- ---- Expressions
 
+-- instructions that act on the registers alone and never skip: a generic one, by its slot; a shift, by its kind and amount
+pub data Plain : Type 0 where
+  generic : ℕ → Plain
+  shift : ℕ → ℕ → Plain
+
+abbrev pub plainWords : List Plain → List Sym
+plainWords [] = []
+plainWords (Plain.generic slot ∷ ps) = Sym.generic slot ∷ plainWords ps
+plainWords (Plain.shift kind n ∷ ps) = Sym.shift kind n ∷ plainWords ps
+
+-- the instruction of a unary word; `.ABS` has two, of which the first skips
+abbrev pub unaryPlain : Unary → Option Plain
+unaryPlain Unary.addc = some (Plain.generic ACA)
+unaryPlain Unary.inc = some (Plain.generic AOA)
+unaryPlain Unary.neg = some (Plain.generic TCA)
+unaryPlain Unary.ssp = some (Plain.generic SSP)
+unaryPlain Unary.ssm = some (Plain.generic SSM)
+unaryPlain Unary.chs = some (Plain.generic CHS)
+unaryPlain Unary.csa = some (Plain.generic CSA)
+unaryPlain Unary.not = some (Plain.generic CMA)
+unaryPlain Unary.icleft = some (Plain.generic ICL)
+unaryPlain Unary.cleft = some (Plain.generic CAL)
+unaryPlain Unary.swop = some (Plain.generic ICA)
+unaryPlain Unary.icright = some (Plain.generic ICR)
+unaryPlain Unary.cright = some (Plain.generic CAR)
+unaryPlain Unary.abs = none
+
 unfoldable pub unaryWords : Unary → List Sym
-unaryWords Unary.addc = Sym.generic ACA ∷ []
-unaryWords Unary.inc = Sym.generic AOA ∷ []
-unaryWords Unary.neg = Sym.generic TCA ∷ []
-unaryWords Unary.ssp = Sym.generic SSP ∷ []
-unaryWords Unary.ssm = Sym.generic SSM ∷ []
-unaryWords Unary.chs = Sym.generic CHS ∷ []
-unaryWords Unary.csa = Sym.generic CSA ∷ []
-unaryWords Unary.not = Sym.generic CMA ∷ []
-unaryWords Unary.icleft = Sym.generic ICL ∷ []
-unaryWords Unary.cleft = Sym.generic CAL ∷ []
-unaryWords Unary.swop = Sym.generic ICA ∷ []
-unaryWords Unary.icright = Sym.generic ICR ∷ []
-unaryWords Unary.cright = Sym.generic CAR ∷ []
-unaryWords Unary.abs = Sym.generic SPL ∷ Sym.generic TCA ∷ []
+unaryWords u = given (unaryPlain u) (λ p. plainWords (p ∷ [])) (λ _. Sym.generic SPL ∷ Sym.generic TCA ∷ [])
 
 -- "Unary words follow the term, right to left"
 unfoldable pub unariesWords : List Unary → List Sym
@@ -77,9 +101,12 @@ shiftKind Shift.lgl = LGL
 shiftKind Shift.als = ALS
 shiftKind Shift.alr = ALR
 
+abbrev pub shiftPlain : Shift → ℕ → Plain
+shiftPlain s n = Plain.shift (shiftKind s) n
+
 unfoldable pub operationWords : Operation → List Sym
 operationWords (Operation.binary o c) = cellWords (operatorCode o) c
-operationWords (Operation.shift s n) = Sym.shift (shiftKind s) n ∷ []
+operationWords (Operation.shift s n) = plainWords (shiftPlain s n ∷ [])
 
 unfoldable pub operationsWords : List Operation → List Sym
 operationsWords [] = []

@@ -6,7 +6,7 @@ use Rattle.source.specs.Bytes.{whether, given}
 use Rattle.source.specs.Kinds
 use Rattle.source.specs.declared.Token.{Token}
 use Rattle.source.specs.Tokens.{tokenAt}
-use Rattle.syntax.specs.Tree.{Id, Array, Expr, Target, Stmt, Stmts}
+use Rattle.syntax.specs.Tree.{Id, Array, Expr, Cond, Target, Stmt, Stmts}
 use Rattle.syntax.specs.Symbols.{Names, asInteger, asArray, asProcedure}
 use Rattle.syntax.specs.Parse.{Got, andThen, failAt, is, expect, parted}
 use Rattle.syntax.specs.Parse.Got.{got}
@@ -61,31 +61,33 @@ module _ (source : List ℕ) (names : Names) where
       andThen (expect Kinds.equal source at) (λ _ n.
       andThen (parseLoneCell source names n) (λ cell next. got (Stmt.setX cell) next))
 
+  -- what `.IF`, `.WHEN` and `.WHILE` begin with: a condition, the word after it, and the statement that it guards
+  unfoldable pub parseGuarded : (ℕ → Got Expr) → (ℕ → Got Stmt) → ℕ → ℕ → Got (Cond × Stmt)
+  parseGuarded expr inner word at =
+      andThen (parseCond source names expr at) (λ c n.
+      andThen (expect word source n) (λ _ m.
+      andThen (inner m) (λ s next. got (c, s) next)))
+
   -- "`.IF` condition `.THEN` s `.ELSE` s"
   unfoldable pub parseIf : (ℕ → Got Expr) → (ℕ → Got Stmt) → ℕ → Got Stmt
   parseIf expr inner at =
-      andThen (parseCond source names expr at) (λ c n.
-      andThen (expect Kinds.THEN source n) (λ _ m.
-      andThen (inner m) (λ s k.
-      andThen (expect Kinds.ELSE source k) (λ _ l.
-      andThen (inner l) (λ t next. got (Stmt.if c s t) next)))))
+      andThen (parseGuarded expr inner Kinds.THEN at) (λ first n.
+      andThen (expect Kinds.ELSE source n) (λ _ m.
+      andThen (inner m) (λ t next. got (Stmt.if (first .0) (first .1) t) next)))
 
   -- "`.WHEN` condition `.THEN` s"
   unfoldable pub parseWhen : (ℕ → Got Expr) → (ℕ → Got Stmt) → ℕ → Got Stmt
-  parseWhen expr inner at =
-      andThen (parseCond source names expr at) (λ c n.
-      andThen (expect Kinds.THEN source n) (λ _ m.
-      andThen (inner m) (λ s next. got (Stmt.when c s) next)))
+  parseWhen expr inner at = andThen (parseGuarded expr inner Kinds.THEN at) (λ part next. got (Stmt.when (part .0) (part .1)) next)
 
-  -- "`.DO` s", of a loop whose head is read
+  -- "`.WHILE` condition `.DO` s"
+  unfoldable pub parseWhile : (ℕ → Got Expr) → (ℕ → Got Stmt) → ℕ → Got Stmt
+  parseWhile expr inner at = andThen (parseGuarded expr inner Kinds.DO at) (λ part next. got (Stmt.while (part .0) (part .1)) next)
+
+  -- "`.DO` s", of a `.FOR` whose head is read
   unfoldable pub parseBody : (ℕ → Got Stmt) → (Stmt → Stmt) → ℕ → Got Stmt
   parseBody inner loop at =
       andThen (expect Kinds.DO source at) (λ _ n.
       andThen (inner n) (λ s next. got (loop s) next))
-
-  -- "`.WHILE` condition `.DO` s"
-  unfoldable pub parseWhile : (ℕ → Got Expr) → (ℕ → Got Stmt) → ℕ → Got Stmt
-  parseWhile expr inner at = andThen (parseCond source names expr at) (λ c n. parseBody inner (Stmt.while c) n)
 
   -- "`.FOR` integer = expression `.DO` s", after the integer
   unfoldable pub parseForInteger : (ℕ → Got Expr) → (ℕ → Got Stmt) → Id → ℕ → Got Stmt

@@ -1,4 +1,3 @@
--- `cells::expect` meets its contract. Assumes nothing.
 use borrow.Author.Tests.{eq-eqb, ne-eqb}
 use Rattle.syntax.specs.Parse.{expect, failAt}
 use Rattle.cells.specs.Answers.{partOf}

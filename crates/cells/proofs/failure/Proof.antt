@@ -1,4 +1,3 @@
--- `cells::failure` meets its contract. Assumes nothing.
 use borrow.Author.Tests.{ne-eqb}
 use Rattle.source.specs.Tokens.{failureAt}
 use borrow.Author.Needs.{needs}

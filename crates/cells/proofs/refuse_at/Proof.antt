@@ -1,4 +1,3 @@
--- `cells::refuse_at` meets its contract. Assumes nothing.
 use borrow.Author.Needs.{needs}
 use Rattle.cells.proofs.refuse_at.Statement.{statement}
 use Rattle.cells.proofs.refuse_at.Tie as tie

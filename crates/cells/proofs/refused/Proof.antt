@@ -1,4 +1,3 @@
--- `cells::refused` meets its contract. Assumes nothing.
 use borrow.Author.Tests.{eq-eqb, ne-eqb}
 use Rattle.syntax.specs.Parse.{failAt}
 use Rattle.syntax.specs.Cells.{refuse}

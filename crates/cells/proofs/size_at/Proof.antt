@@ -1,4 +1,3 @@
--- `cells::size_at` meets its contract. Assumes nothing.
 use borrow.Author.Tests.{le-leb, lt-leb}
 use Rattle.cells.proofs.Laws.{range-failed, range-in, range-out}
 use borrow.Author.Needs.{needs}
@@ -30,7 +29,7 @@ fail-at-requires : tie.Need-fail-at-requires
 fail-at-requires c κs = search needs
 
 returns-3 : tie.Need-returns-3
-returns-3 c = rw (c .fail-at .ensures, c .before .token-at .ensures) (range-out _ _ _ _ _ (c .before .before .before .before .before .before .constant-at .ensures) (c .before .before .before .before .enum-told .given .1) (rw (← (c .before .before .before .size-of .ensures)) (lt-leb _ _ (c .before .before .if1 .left))) _)
+returns-3 c = rw (c .fail-at .ensures, c .before .token-at .ensures) (range-out _ _ _ _ _ (c .before .before .before .before .before .before .constant-at .ensures) (c .before .before .before .before .enum-told .given .1) (rw (← (c .before .before .before .size-of .ensures)) (lt-leb _ _ (c .before .before .if1 .left))))
 
 pub size-at-spec : {M : Type 1} → statement M
 size-at-spec =

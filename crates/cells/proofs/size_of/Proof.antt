@@ -1,4 +1,3 @@
--- `cells::size_of` meets its contract. Assumes nothing.
 use borrow.Author.Tests.{le-leb, lt-leb}
 use native.Mathlib.Omega.{arith}
 use Rattle.syntax.specs.Declarations.{sizeOf}

@@ -1,8 +1,8 @@
--- `passes` meets its contract. Assumes nothing.
+-- The first reading's answer decides; an accepted source is read again, on the cleared image and by the plan. Assumes nothing.
 use mathlib.Core.Path.{ap, _∙_}
+use native.Mathlib.Omega.{arith}
 use lib.ListN.{replicate}
-use Rattle.declarations.proofs.Reading.{came}
-use Rattle.compiler.proofs.Readings.{failed-pass, accepted-pass}
+use Rattle.compiler.proofs.Readings.{part-accepted, part-failed, failed-pass, accepted-pass}
 use borrow.Author.Needs.{needs}
 use Rattle.compiler.proofs.passes.Statement.{statement}
 use Rattle.compiler.proofs.passes.Tie as tie
@@ -19,8 +19,14 @@ part-program-end c = search needs
 program-requires : tie.Need-program-requires
 program-requires c κs = search needs
 
-enum-known-part : tie.Need-enum-known-part
-enum-known-part c = search needs
+answered-requires : tie.Need-answered-requires
+answered-requires c κs = search needs
+
+enum-told : tie.Need-enum-told
+enum-told c = search needs
+
+enum-told-2 : tie.Need-enum-told-2
+enum-told-2 c = search needs
 
 same-length : tie.Need-same-length
 same-length c = search needs
@@ -30,12 +36,13 @@ same-length-2 c = search needs
 
 returns : tie.Need-returns
 returns c =
-    let back = c .before .before .before .before in
+    let answer = c .before .before in
+    let back = answer .before .before in
     let read = back .before .before .before in
-    failed-pass _ (read .before .before .before .before .before .before .pre .0) (read .program .last .1 .1 .0) _ (back .image .given .0) (read .program .ensures) (c .before .part .given .1)
-
-enum-told : tie.Need-enum-told
-enum-told c = search needs
+    let start = read .before .before .before .before .before .before in
+    let told = c .enum-told2 .given .1 in
+    failed-pass _ (start .pre .0) (read .program .last .1 .1 .0) _ (start .args .scratch .now) (back .image .given .0) (start .pre .2) (read .program .ensures .0)
+    (part-failed _ (answer .answered .ensures) told) told
 
 with-end-requires : tie.Need-with-end-requires
 with-end-requires c κs = search needs
@@ -46,26 +53,25 @@ clear-requires c κs = search needs
 program-requires-2 : tie.Need-program-requires-2
 program-requires-2 c κs = search needs
 
-accepted-requires : tie.Need-accepted-requires
-accepted-requires c κs = search needs
-
 same-length-3 : tie.Need-same-length-3
 same-length-3 c =
-    let cleared = c .before .before .before .before .before .before .before .before .before in
-    c .before .before .image3 .given ∙ cleared .image2 .given ∙ cleared .before .before .before .before .before .before .before .before .before .before .image .given .1
+    let cleared = c .before .before .before .before .before .before .before .before in
+    c .before .image3 .given ∙ cleared .image2 .given ∙ cleared .before .before .before .before .before .before .before .before .before .before .before .image .given .1
 
 same-length-4 : tie.Need-same-length-4
-same-length-4 c = c .before .before .before .before .scratch2 .given ∙ c .before .before .before .before .before .before .before .before .before .before .before .before .before .before .before .before .before .before .before .before .before .scratch .given
+same-length-4 c = c .before .before .before .scratch2 .given ∙ c .before .before .before .before .before .before .before .before .before .before .before .before .before .before .before .before .before .before .before .before .before .scratch .given
 
 returns-2 : tie.Need-returns-2
 returns-2 c =
-    let cleared = c .before .before .before .before .before .before .before .before .before .before in
+    let cleared = c .before .before .before .before .before .before .before .before .before in
     let told = cleared .before .before .before .before .before .before in
-    let back = told .before .before .before in
+    let answer = told .before .before in
+    let back = answer .before .before in
     let read = back .before .before .before in
     let start = read .before .before .before .before .before .before in
-    accepted-pass _ (start .pre .0) (read .program .result) _ (came (read .program .ensures) (told .enum-told .given .1)) (cleared .before .before .with-end .ensures)
-    (cleared .clear .ensures ∙ ap (λ n. replicate n 0) (back .image .given .1 ∙ start .pre .1)) (c .before .before .before .before .before .program2 .ensures) (c .accepted .ensures)
+    accepted-pass _ (start .pre .0) (read .program .result) _ (start .args .scratch .now) _ (start .pre .2) (read .program .ensures .0) (answer .answered .ensures)
+    (part-accepted _ (answer .answered .ensures) (told .enum-told .given .1) .1) (cleared .before .before .with-end .ensures)
+    (cleared .clear .ensures ∙ ap (λ n. replicate n 0) (back .image .given .1 ∙ start .pre .1)) (c .before .before .before .before .program2 .ensures .0) (omega (arith, start .pre .2, c .before .before .before .before .before .before .before .before .before .before .before .before .before .before .before .before .before .before .before .before .before .scratch .given))
 
 pub passes-spec : {M : Type 1} → statement M
 passes-spec =
@@ -75,15 +81,15 @@ passes-spec =
     part-program-start
     part-program-end
     program-requires
-    enum-known-part
+    answered-requires
+    enum-told
+    enum-told-2
     same-length
     same-length-2
     returns
-    enum-told
     with-end-requires
     clear-requires
     program-requires-2
-    accepted-requires
     same-length-3
     same-length-4
     returns-2)

@@ -1,6 +1,6 @@
 -- `emitter::address_of` meets its contract, case by case. Assumes nothing.
 use mathlib.Core.Path.{_∙_}
-use Rattle.operands.specs.Trees.{treeOperand}
+use Rattle.symbols.specs.Trees.{treeOperand}
 use Rattle.emission.specs.Map.{addressOf}
 use Rattle.emitter.proofs.Words.{named-same}
 use borrow.Author.Needs.{needs}

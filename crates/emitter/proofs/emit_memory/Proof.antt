@@ -1,6 +1,7 @@
 -- `emitter::emit_memory` meets its contract. Assumes nothing.
-use mathlib.Core.Path.{_∙_}
-use Rattle.emitter.proofs.Words.{memory-word}
+use mathlib.Core.Path.{ap, _∙_}
+use Rattle.emitter.specs.Emitted.{emitAll, pooledAll}
+use Rattle.emitter.proofs.Words.{memory-word, memory-literals}
 use borrow.Author.Needs.{needs}
 use Rattle.emitter.proofs.emit_memory.Statement.{statement}
 use Rattle.emitter.proofs.emit_memory.Tie as tie
@@ -21,10 +22,16 @@ same-length : tie.Need-same-length
 same-length c = search needs
 
 returns : tie.Need-returns
+unfolding emitAll
 returns c =
     let w = c .before .before .before .before .before .before in
     let a = c .before .before .before .before .before in
-    c .before .before .emit-word .ensures ∙ memory-word _ _ _ _ _ _ _ (w .with-operand .ensures) (a .address-of .ensures) (c .before .before .before .reference .ensures)
+    let word = c .before .before .emit-word .ensures in
+    let pool = w .with-operand .ensures in
+    record {
+      emitted = word .emitted ∙ memory-word _ _ _ _ _ _ _ (pool .held) (a .address-of .ensures) (c .before .before .before .reference .ensures);
+      pool = word .pool ∙ pool .whole ∙ ap (pooledAll _) (memory-literals _ _);
+    }
 
 pub emit-memory-spec : {M : Type 1} → statement M
 emit-memory-spec =

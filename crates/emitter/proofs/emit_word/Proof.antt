@@ -1,4 +1,5 @@
 -- `emitter::emit_word` meets its contract. Assumes nothing.
+use mathlib.Core.Path.{refl}
 use Rattle.emitter.specs.Emitted.{withWord}
 use borrow.Author.Needs.{needs}
 use Rattle.emitter.proofs.emit_word.Statement.{statement}
@@ -18,7 +19,7 @@ same-length c = search needs
 
 returns : tie.Need-returns
 unfolding withWord
-returns c = rw (c .next-address .ensures, c .before .before .before .store .ensures)
+returns c = record { emitted = rw (c .next-address .ensures, c .before .before .before .store .ensures); pool = refl }
 
 pub emit-word-spec : {M : Type 1} → statement M
 emit-word-spec =

@@ -1,7 +1,8 @@
 -- `emitter::with_operand` meets its contract, case by case. Assumes nothing.
-use Rattle.operands.specs.Trees.{treeOperand}
+use Rattle.symbols.specs.Trees.{treeOperand}
 use Rattle.syntax.specs.Pool.{literalOf}
-use Rattle.emitter.specs.Emitted.{withLiterals}
+use mathlib.Core.Path.{refl}
+use Rattle.emitter.specs.Emitted.{withLiterals, pooledAll}
 use borrow.Author.Needs.{needs}
 use Rattle.emitter.proofs.with_operand.Statement.{statement}
 use Rattle.emitter.proofs.with_operand.Tie as tie
@@ -16,11 +17,11 @@ with-literal-requires : tie.Need-with-literal-requires
 with-literal-requires c κs = search needs
 
 returns : tie.Need-returns
-unfolding withLiterals literalOf treeOperand
-returns c = rw (c .enum-told .given .1)
+unfolding withLiterals pooledAll literalOf treeOperand
+returns c = rw (c .enum-told .given .1) (record { held = refl; whole = refl })
 
 returns-2 : tie.Need-returns-2
-unfolding withLiterals literalOf treeOperand
+unfolding literalOf treeOperand
 returns-2 c = rw (c .before .before .operand .given .1) (c .with-literal .ensures)
 
 pub with-operand-spec : {M : Type 1} → statement M

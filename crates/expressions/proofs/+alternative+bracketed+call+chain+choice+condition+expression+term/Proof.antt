@@ -3,12 +3,14 @@
 use mathlib.Core.Path.{refl, sym, ap, _∙_}
 use native.Mathlib.Omega.{arith}
 use borrow.Author.Needs.{needs}
+use Rattle.expressions.proofs.Leaves.{hole-later}
 use Rattle.syntax.specs.Expressions.{parseBracketed}
 use Rattle.emitter.specs.Emitted.{emittedBy}
 use Rattle.expressions.specs.Chains.{elseExpr}
-use Rattle.expressions.specs.Compiles.{Alternates}
-use Rattle.cells.proofs.Laws.{then-got, then-failed, part-read, part-failed, got-read, got-failed}
-use Rattle.expressions.proofs.Laws.{came, failed-as, parsed-as, pass}
+use Rattle.cells.specs.Reads.Reads.{read, fails}
+use Rattle.emitter.proofs.Lays.{kept-here}
+use Rattle.cells.proofs.Laws.{then-got, part-read, got-read, got-failed, got-with}
+use Rattle.cells.proofs.Reading.{came, failed-as, kept-as, pass, missing, reads-on}
 use Rattle.expressions.proofs.Comparisons.{none-left, bare-read, value-failed, value-compared}
 use Rattle.expressions.proofs.Forms.{bracketed-closed, called-alone, call-failed, called-with, begins-cell, begins-zero, begins-bracket, begins-call, begins-accumulator, unaries-upto, start-failed, term-failed, chained, test-failed, then-missing, first-failed, chosen, from-state, deep-part, is-choice, is-chain}
 use Prim.Native.Nat.{_*_, _+_}
@@ -176,7 +178,7 @@ alternative-enum-told t c = search needs
 
 alternative-returns : (t : ℕ) → alternative-lts.Need-returns (alternative-calls t) (alternative-at t) alternative.Post
 unfolding elseExpr
-alternative-returns t c = Alternates.fails (then-failed _ (part-failed _ (c .before .before .expect .ensures) (c .enum-told .given .1))) (c .enum-told .given .1)
+alternative-returns t c = missing _ _ (c .before .before .expect .ensures) (c .enum-told .given .1) refl kept-here
 
 alternative-expression-requires : (t : ℕ) → alternative-lts.Need-expression-requires (alternative-calls t) (alternative-at t) alternative.Post
 alternative-expression-requires t c κs = (omega (arith, c .before .before .before .before .before .before .before .before .pre .0), tt)
@@ -192,7 +194,11 @@ alternative-same-length t c = search needs
 
 alternative-returns-2 : (t : ℕ) → alternative-lts.Need-returns-2 (alternative-calls t) (alternative-at t) alternative.Post
 unfolding elseExpr
-alternative-returns-2 t c = Alternates.fails (then-got _ (part-read _ (c .before .before .before .before .before .before .before .before .before .expect .ensures) (c .before .before .before .before .before .before .before .otherwise .given .1) .is) ∙ failed-as (c .before .before .before .before .expression .ensures) (c .enum-told3 .given .1)) (c .enum-told3 .given .1)
+alternative-returns-2 t c =
+    let two = c .before .before .before .before in
+    let r = two .expression .ensures in
+    let e = c .enum-told3 .given .1 in
+    fails (then-got _ (part-read _ (two .before .before .before .before .before .expect .ensures) (two .before .before .before .otherwise .given .1) .is) ∙ failed-as r e) e (kept-as r e)
 
 alternative-fill-jump-requires : (t : ℕ) → alternative-lts.Need-fill-jump-requires (alternative-calls t) (alternative-at t) alternative.Post
 alternative-fill-jump-requires t c κs = search needs
@@ -203,8 +209,11 @@ alternative-same-length-2 t c = search needs
 alternative-returns-3 : (t : ℕ) → alternative-lts.Need-returns-3 (alternative-calls t) (alternative-at t) alternative.Post
 unfolding elseExpr
 alternative-returns-3 t c =
-    let v = came (c .before .before .before .before .before .before .before .before .before .expression .ensures) (c .before .before .before .before .before .enum-told2 .given .1) in
-    Alternates.read (then-got _ (part-read _ (c .before .before .before .before .before .before .before .before .before .before .before .before .before .before .expect .ensures) (c .before .before .before .before .before .before .before .before .before .before .before .before .otherwise .given .1) .is) ∙ v .is) (c .before .before .before .before .before .enum-told2 .given .1) (v .lays) (ap (emittedBy (c .before .before .before .before .before .before .before .before .before .expression .result .output)) (c .before .before .fill-jump .ensures))
+    let two = c .before .before .before .before .before .before .before .before .before in
+    let e = c .before .before .before .before .before .enum-told2 .given .1 in
+    let v = came (two .expression .ensures) e in
+    read (then-got _ (part-read _ (two .before .before .before .before .before .expect .ensures) (two .before .before .before .otherwise .given .1) .is) ∙ v .is) e
+    (record { end = _; lays = v .holds; is = ap (emittedBy (two .expression .result .output)) (c .before .before .fill-jump .ensures) })
 
 bracketed-expression-requires : (t : ℕ) → bracketed-lts.Need-expression-requires (bracketed-calls t) (bracketed-at t) bracketed.Post
 bracketed-expression-requires t c κs = (omega (arith, c .before .before .before .before .pre .0), tt)
@@ -220,7 +229,7 @@ bracketed-same-length t c = search needs
 
 bracketed-returns : (t : ℕ) → bracketed-lts.Need-returns (bracketed-calls t) (bracketed-at t) bracketed.Post
 unfolding parseBracketed
-bracketed-returns t c = pass _ (c .before .before .before .before .expression .ensures) (c .enum-told .given .1) refl
+bracketed-returns t c = pass _ (c .before .before .before .before .expression .ensures) (c .enum-told .given .1) refl (λ w. w)
 
 bracketed-expect-requires : (t : ℕ) → bracketed-lts.Need-expect-requires (bracketed-calls t) (bracketed-at t) bracketed.Post
 bracketed-expect-requires t c κs = search needs
@@ -241,7 +250,7 @@ call-same-length : (t : ℕ) → call-lts.Need-same-length (call-calls t) (call-
 call-same-length t c = search needs
 
 call-returns : (t : ℕ) → call-lts.Need-returns (call-calls t) (call-at t) call.Post
-call-returns t c = called-alone _ _ _ _ _ _ (c .before .before .before .before .before .before .token-at .ensures) (c .before .before .before .before .if1 .taken) (c .before .before .emit-through .ensures)
+call-returns t c = called-alone _ _ _ _ _ _ (c .before .before .before .before .before .before .token-at .ensures) (c .before .before .before .before .if1 .taken) (c .before .before .emit-through .ensures .emitted)
 
 call-bracketed-requires : (t : ℕ) → call-lts.Need-bracketed-requires (call-calls t) (call-at t) call.Post
 call-bracketed-requires t c κs = (omega (arith, c .before .before .before .before .before .before .before .pre .0), tt)
@@ -265,7 +274,7 @@ call-same-length-3 : (t : ℕ) → call-lts.Need-same-length-3 (call-calls t) (c
 call-same-length-3 t c = search needs
 
 call-returns-3 : (t : ℕ) → call-lts.Need-returns-3 (call-calls t) (call-at t) call.Post
-call-returns-3 t c = called-with _ _ _ _ _ _ (c .before .before .before .before .before .before .before .before .before .before .before .before .before .before .token-at .ensures) (c .before .before .before .before .before .before .before .before .before .before .before .before .if1 .left) (c .before .before .before .before .before .before .before .before .before .before .bracketed .ensures) (c .before .before .before .before .before .before .part .given .1) (c .before .before .emit-through2 .ensures)
+call-returns-3 t c = called-with _ _ _ _ _ _ (c .before .before .before .before .before .before .before .before .before .before .before .before .before .before .token-at .ensures) (c .before .before .before .before .before .before .before .before .before .before .before .before .if1 .left) (c .before .before .before .before .before .before .before .before .before .before .bracketed .ensures) (c .before .before .before .before .before .before .part .given .1) (c .before .before .emit-through2 .ensures .emitted)
 
 chain-unaries-next-requires : (t : ℕ) → chain-lts.Need-unaries-next-requires (chain-calls t) (chain-at t) chain.Post
 chain-unaries-next-requires t c κs = search needs
@@ -280,7 +289,7 @@ chain-enum-told : (t : ℕ) → chain-lts.Need-enum-told (chain-calls t) (chain-
 chain-enum-told t c = search needs
 
 chain-returns : (t : ℕ) → chain-lts.Need-returns (chain-calls t) (chain-at t) chain.Post
-chain-returns t c = start-failed _ _ _ _ _ (unaries-upto _ _ _ _ (c .before .before .before .unaries-next .ensures)) (got-failed _ (c .before .before .term-start-at .ensures) (c .enum-told .given .1)) (c .enum-told .given .1)
+chain-returns t c = start-failed _ _ _ _ _ (unaries-upto _ _ _ _ (c .before .before .before .unaries-next .ensures)) (got-failed _ (got-with _ (c .before .before .term-start-at .ensures)) (c .enum-told .given .1)) (c .enum-told .given .1)
 
 chain-term-requires : (t : ℕ) → chain-lts.Need-term-requires (chain-calls t) (chain-at t) chain.Post
 chain-term-requires t c κs = (omega (arith, c .before .before .before .before .before .before .before .before .before .pre .0), tt)
@@ -295,7 +304,7 @@ chain-same-length : (t : ℕ) → chain-lts.Need-same-length (chain-calls t) (ch
 chain-same-length t c = search needs
 
 chain-returns-2 : (t : ℕ) → chain-lts.Need-returns-2 (chain-calls t) (chain-at t) chain.Post
-chain-returns-2 t c = term-failed _ _ _ _ _ (unaries-upto _ _ _ _ (c .before .before .before .before .before .before .before .before .before .before .unaries-next .ensures)) (got-read (c .before .before .before .before .before .before .before .before .before .term-start-at .ensures) (c .before .before .before .before .before .before .before .part .given .1)) (c .before .before .before .before .term .ensures) (c .enum-told2 .given .1)
+chain-returns-2 t c = term-failed _ _ _ _ _ (unaries-upto _ _ _ _ (c .before .before .before .before .before .before .before .before .before .before .unaries-next .ensures)) (got-read (got-with _ (c .before .before .before .before .before .before .before .before .before .term-start-at .ensures)) (c .before .before .before .before .before .before .before .part .given .1)) (c .before .before .before .before .term .ensures) (c .enum-told2 .given .1)
 
 chain-emit-unaries-requires : (t : ℕ) → chain-lts.Need-emit-unaries-requires (chain-calls t) (chain-at t) chain.Post
 chain-emit-unaries-requires t c κs = search needs
@@ -307,7 +316,7 @@ chain-same-length-2 : (t : ℕ) → chain-lts.Need-same-length-2 (chain-calls t)
 chain-same-length-2 t c = search needs
 
 chain-returns-3 : (t : ℕ) → chain-lts.Need-returns-3 (chain-calls t) (chain-at t) chain.Post
-chain-returns-3 t c = chained _ _ _ _ _ (unaries-upto _ _ _ _ (c .before .before .before .before .before .before .before .before .before .before .before .before .before .before .before .before .before .before .before .before .unaries-next .ensures)) (got-read (c .before .before .before .before .before .before .before .before .before .before .before .before .before .before .before .before .before .before .before .term-start-at .ensures) (c .before .before .before .before .before .before .before .before .before .before .before .before .before .before .before .before .before .part .given .1)) (c .before .before .before .before .before .before .before .before .before .before .before .before .before .before .term .ensures) (c .before .before .before .before .before .before .before .before .before .before .one-part .given .1) (c .before .before .before .before .before .before .emit-unaries .ensures) (c .before .before .operations .ensures)
+chain-returns-3 t c = chained _ _ _ _ _ (unaries-upto _ _ _ _ (c .before .before .before .before .before .before .before .before .before .before .before .before .before .before .before .before .before .before .before .before .unaries-next .ensures)) (got-read (got-with _ (c .before .before .before .before .before .before .before .before .before .before .before .before .before .before .before .before .before .before .before .term-start-at .ensures)) (c .before .before .before .before .before .before .before .before .before .before .before .before .before .before .before .before .before .part .given .1)) (c .before .before .before .before .before .before .before .before .before .before .before .before .before .before .term .ensures) (c .before .before .before .before .before .before .before .before .before .before .one-part .given .1) (c .before .before .before .before .before .before .emit-unaries .ensures) (c .before .before .operations .ensures)
 
 choice-condition-requires : (t : ℕ) → choice-lts.Need-condition-requires (choice-calls t) (choice-at t) choice.Post
 choice-condition-requires t c κs = (omega (arith, c .before .before .before .before .pre .0), tt)
@@ -368,7 +377,7 @@ choice-same-length-4 t c = c .before .image5 .given ∙ c .before .before .befor
 
 choice-returns-4 : (t : ℕ) → choice-lts.Need-returns-4 (choice-calls t) (choice-at t) choice.Post
 choice-returns-4 t c =
-    chosen _ _ _ _ (c .before .before .before .before .before .before .before .before .before .before .before .before .before .before .before .before .before .before .before .before .before .before .before .before .before .before .before .before .before .before .before .condition .ensures) (c .before .before .before .before .before .before .before .before .before .before .before .before .before .before .before .before .before .before .before .before .before .before .before .before .before .before .part .given .1) (c .before .before .before .before .before .before .before .before .before .before .before .before .before .before .before .before .before .before .before .before .before .before .before .before .expect .ensures) (c .before .before .before .before .before .before .before .before .before .before .before .before .before .before .before .before .before .before .before .before .before .before .then .given .1) (c .before .before .before .before .before .before .before .before .before .before .before .before .before .before .before .before .before .before .before .expression .ensures) (c .before .before .before .before .before .before .before .before .before .before .before .before .before .before .before .one-part .given .1) (c .before .before .before .before .before .before .before .before .before .before .before .emit-hole .ensures)
+    chosen _ _ _ _ (c .before .before .before .before .before .before .before .before .before .before .before .before .before .before .before .before .before .before .before .before .before .before .before .before .before .before .before .before .before .before .before .condition .ensures) (c .before .before .before .before .before .before .before .before .before .before .before .before .before .before .before .before .before .before .before .before .before .before .before .before .before .before .part .given .1) (c .before .before .before .before .before .before .before .before .before .before .before .before .before .before .before .before .before .before .before .before .before .before .before .before .expect .ensures) (c .before .before .before .before .before .before .before .before .before .before .before .before .before .before .before .before .before .before .before .before .before .before .then .given .1) (c .before .before .before .before .before .before .before .before .before .before .before .before .before .before .before .before .before .before .before .expression .ensures) (c .before .before .before .before .before .before .before .before .before .before .before .before .before .before .before .one-part .given .1) (hole-later (c .before .before .before .before .before .before .before .before .before .before .before .emit-hole .ensures))
     (from-state (ap (emittedBy (c .before .before .before .before .before .before .before .before .before .before .before .emit-hole .result .output)) (c .before .before .before .before .before .before .fill-jump .ensures)) (c .before .before .alternative .ensures))
 
 condition-token-at-requires : (t : ℕ) → condition-lts.Need-token-at-requires (condition-calls t) (condition-at t) condition.Post
@@ -483,7 +492,7 @@ term-same-length : (t : ℕ) → term-lts.Need-same-length (term-calls t) (term-
 term-same-length t c = search needs
 
 term-returns : (t : ℕ) → term-lts.Need-returns (term-calls t) (term-at t) term.Post
-term-returns t c = begins-cell _ _ _ _ (c .before .before .before .before .before .before .start .given .1) (parsed-as (c .before .before .emit-read .ensures) (sym (c .before .before .before .before .cell-from .ensures)))
+term-returns t c = begins-cell _ _ _ _ (c .before .before .before .before .before .before .start .given .1) (reads-on (sym (got-with _ (c .before .before .before .before .cell-from .ensures))) (c .before .before .emit-read .ensures))
 
 term-returns-2 : (t : ℕ) → term-lts.Need-returns-2 (term-calls t) (term-at t) term.Post
 term-returns-2 t c = begins-accumulator _ _ _ _ (c .enum-told .given .1)
@@ -492,7 +501,7 @@ term-same-length-2 : (t : ℕ) → term-lts.Need-same-length-2 (term-calls t) (t
 term-same-length-2 t c = search needs
 
 term-returns-3 : (t : ℕ) → term-lts.Need-returns-3 (term-calls t) (term-at t) term.Post
-term-returns-3 t c = begins-zero _ _ _ _ (c .before .before .before .before .enum-told2 .given .1) (c .before .before .emit-generic .ensures)
+term-returns-3 t c = begins-zero _ _ _ _ (c .before .before .before .before .enum-told2 .given .1) (c .before .before .emit-generic .ensures .emitted)
 
 term-same-length-3 : (t : ℕ) → term-lts.Need-same-length-3 (term-calls t) (term-at t) term.Post
 term-same-length-3 t c = search needs

@@ -1,7 +1,7 @@
 -- `emit_read` meets its contract. Assumes nothing.
 use mathlib.Core.Path.{refl}
-use Rattle.emitter.proofs.Lays.{words}
-use Rattle.expressions.specs.Compiles.{Compiles}
+use Rattle.emitter.proofs.Lays.{kept-here, words}
+use Rattle.cells.specs.Reads.Reads.{read, fails}
 use Rattle.cells.proofs.Laws.{got-read, got-failed}
 use borrow.Author.Needs.{needs}
 use Rattle.expressions.proofs.emit_read.Statement.{statement}
@@ -14,7 +14,7 @@ enum-told-2 : tie.Need-enum-told-2
 enum-told-2 c = search needs
 
 returns : tie.Need-returns
-returns c = Compiles.fails (got-failed _ refl (c .enum-told2 .given .1)) (c .enum-told2 .given .1)
+returns c = fails (got-failed _ refl (c .enum-told2 .given .1)) (c .enum-told2 .given .1) kept-here
 
 emit-cell-requires : tie.Need-emit-cell-requires
 emit-cell-requires c κs = search needs
@@ -23,7 +23,7 @@ same-length : tie.Need-same-length
 same-length c = search needs
 
 returns-2 : tie.Need-returns-2
-returns-2 c = Compiles.read (got-read refl (c .before .before .before .before .enum-told .given .1)) (c .before .before .before .before .enum-told .given .1) (rw (c .before .before .emit-cell .ensures) (words _))
+returns-2 c = read (got-read refl (c .before .before .before .before .enum-told .given .1)) (c .before .before .before .before .enum-told .given .1) (rw (c .before .before .emit-cell .ensures .emitted) (words _))
 
 pub emit-read-spec : {M : Type 1} → statement M
 emit-read-spec =

@@ -1,4 +1,4 @@
--- Every program that is accepted is well-formed. Assumes nothing.
+-- What an accepted source gives. Assumes nothing.
 use mathlib.Core.Path.{_≡_, subst, refl}
 use mathlib.Core.List.{List}
 use Prim.Native.Nat.{ℕ}
@@ -8,24 +8,17 @@ use Rattle.syntax.specs.Parse.{Got}
 use Rattle.syntax.specs.Parse.Got.{got, failed}
 use Rattle.syntax.specs.Program.{parseProgram}
 use Rattle.emission.specs.Compile.{Compiled, Result, compiled, resultOf, compileDef}
-use Rattle.semantics.specs.WellFormed.{WellFormed}
-use Rattle.semantics.proofs.Acceptance.Parts.{Ok, ok}
-use Rattle.semantics.proofs.Acceptance.Declarations.{programs}
+use Rattle.parsing_laws.specs.WellFormed.{WellFormed}
+use Rattle.parsing_laws.proofs.Parsed.Programs.{well-formed}
 
--- what an accepted source gives
 pub record Accepted (c : Compiled) : Type 0 where
   pub well-formed : WellFormed (c .program)
   pub is : c ≡ compiled (c .program)
 
-of-program : (p : Program) → WellFormed p → Accepted (compiled p)
-unfolding compiled
-of-program p w = record { well-formed = w; is = refl }
-
-by-result : (g : Got Program) → Ok WellFormed g → (c : Compiled) → resultOf g ≡ Result.accepted c → Accepted c
-unfolding resultOf
-by-result (got p n) (ok w) c e = let d : compiled p ≡ c = cc in subst Accepted d (of-program p w)
-by-result (failed n at) h c e = let z : _≡_ {A = ℕ} 0 1 = cc in absurd (omega arith)
-
 pub accepted : (source : List ℕ) (c : Compiled) → compileDef source ≡ Result.accepted c → Accepted c
-unfolding compileDef
-accepted source c e = by-result (parseProgram source) (programs source) c e
+unfolding compileDef resultOf compiled
+accepted source c e = by (parseProgram source) refl e
+  where
+    by : (g : Got Program) → parseProgram source ≡ g → resultOf g ≡ Result.accepted c → Accepted c
+    by (got p n) q e = let d : compiled p ≡ c = cc in subst Accepted d (record { well-formed = well-formed source p n q; is = refl })
+    by (failed n at) q e = let z : _≡_ {A = ℕ} 0 1 = cc in absurd (omega arith)

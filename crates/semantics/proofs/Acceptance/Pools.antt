@@ -11,7 +11,7 @@ use borrow.Author.Tests.{ltb-true, ltb-false, eqb-true, eq-eqb}
 use Rattle.source.specs.Bytes.{whether}
 use Rattle.syntax.specs.Pool.{indexOf, added, addedAll}
 use Rattle.semantics.specs.EmissionLaws.{Among, Extends}
-use Rattle.failure_laws.proofs.Placed.Parts.{choice}
+use Rattle.parsing_laws.proofs.Parsed.Choices.{choice}
 
 -- ---- The index of a value
 

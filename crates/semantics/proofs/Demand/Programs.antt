@@ -14,7 +14,7 @@ use Rattle.syntax.specs.Tree.{Name, Item, Stmts, Declaration, Program}
 use Rattle.syntax.specs.Emission.{Sym, _⧺_, stmtsEnd, stmtsWords, procedureWords, mainWords}
 use Rattle.syntax.specs.State.{stateAfter, localWords, linkOf}
 use Rattle.emission.specs.Map.{Frame, Word, frame, planOf}
-use Rattle.semantics.specs.WellFormed.{Kind, Context, kindsOf, StmtsBy, StmtOk, DeclarationOk, DeclarationsOk, none, more, WellFormed}
+use Rattle.parsing_laws.specs.WellFormed.{Kind, Context, kindsOf, StmtsBy, StmtOk, DeclarationOk, DeclarationsOk, none, more, WellFormed}
 use Rattle.semantics.specs.Laid.{Map, Sound, Known, Knows, LaidStmts, LaidProcedure, LaidProcedures, LaidProgram}
 use Rattle.semantics.specs.Known.{withProcedure, knownFrom, knownOf, mapAt}
 use Rattle.semantics.proofs.MemoryMap.Spans.{Span, join, span-stmts, span-end}
@@ -23,7 +23,7 @@ use Rattle.semantics.proofs.MemoryMap.Words.{SlotOk, AllOk, WordOk, bot
 use Rattle.semantics.proofs.MemoryMap.Bodies.{Body, Placement}
 use Rattle.semantics.proofs.MemoryMap.Reach.{covers}
 use Rattle.semantics.proofs.MemoryMap.Procedures.{knows, known-snoc, known-below}
-use Rattle.semantics.proofs.Acceptance.Scopes.{declared, kinds-append, append-extends, array-some, procedure-some}
+use Rattle.parsing_laws.proofs.Parsed.Scopes.{declared, kinds-append, append-extends, array-some, procedure-some}
 
 -- what is declared by the first of some declarations is declared by all
 kept : (ds es : List Declaration) (n : ℕ) (k : Kind) → (k ≡ Kind.none → ⊥) → getD (kindsOf ds) n Kind.none ≡ k → getD (kindsOf (ds ++ es)) n Kind.none ≡ k

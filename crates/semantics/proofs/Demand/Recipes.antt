@@ -4,10 +4,8 @@ use mathlib.Core.Path.{_≡_, refl, sym, ap, subst, _∙_}
 use mathlib.Core.Bool.{Bool, true, false, cond, not}
 use mathlib.Core.List.{List, [], _∷_}
 use native.Mathlib.Omega.{arith}
-use Rattle.machine.specs.declared.Clock.{Clock}
-use Rattle.machine.specs.declared.Request.{Request}
 use Rattle.machine.specs.State as machine
-use Rattle.runs.specs.Runs.{runsDef, budgetsOf}
+use Rattle.runs.specs.Runs.{Total, Comes}
 use Rattle.source.specs.Bytes.{bytes}
 use Rattle.syntax.specs.Tree.{Id, CellId, Operand, Subscript, Cell, Operator, Operation, Bare, Expr, Term, Cond, Target, Stmt, Stmts, Item, Declaration, Program}
 use Rattle.syntax.specs.Computed as syntax
@@ -18,11 +16,11 @@ use Rattle.syntax.specs.Emission.{bareSlot}
 use Rattle.semantics.specs.Trace.{State, Trace, bind, ended}
 use Rattle.semantics.specs.Acts.{tick, test}
 use Rattle.semantics.specs.Meaning.{meaning, whileTurns, chosen}
-use Rattle.semantics.specs.Agreement.{Loaded, Ends, Breaks, Meets, Fate, Agrees, Demand3}
+use Rattle.semantics.specs.Agreement.{Loaded, Ends, Breaks, Meets, AllMade, ListEnds, Agrees, Demand3}
 use Rattle.semantics.specs.Examples.{computed, start}
 use Rattle.semantics.proofs.Demand.Theorem.{demand3}
 
-agrees : (source : List ℕ) (p : Program) → compileDef source ≡ Result.accepted (compiled p) → (s : machine.State) → Loaded (compiled p) start s → Agrees (compiled p .program) start s
+agrees : (source : List ℕ) (p : Program) → compileDef source ≡ Result.accepted (compiled p) → (s : machine.State) → Loaded (compiled p) start s → Agrees (compiled p .program) start (Comes s)
 unfolding Demand3
 agrees source p e s l = demand3 source (compiled p) e start s l
 
@@ -66,15 +64,13 @@ sum-whole : (f : ℕ) (τ : State) → Breaks τ (meaning f sum start) → ⊥
 unfolding computed sum
 sum-whole f τ b = not-broken _ refl (breaks-on (breaks-on b))
 
-by-fate : (s : machine.State) (qs : List Request) (k : Clock) → 4 < budgetsOf qs s → Fate sum start s qs k
-    → (runsDef qs s k .state .machine .halted ≡ true) × (runsDef qs s k .steps ≡ 5)
-by-fate s qs k h (Fate.halts f τ e b halted steps shows) = (halted, steps ∙ ap suc (sum-ends f τ e))
-by-fate s qs k h (Fate.goes-on late running steps) = let l = sum-late (budgetsOf qs s) late in absurd (omega arith)
-
-pub sum-halts : (s : machine.State) → Loaded (compiled sum) start s → (qs : List Request) (k : Clock) → 4 < budgetsOf qs s
-    → (runsDef qs s k .state .machine .halted ≡ true) × (runsDef qs s k .steps ≡ 5)
+pub sum-halts : (s : machine.State) → Loaded (compiled sum) start s → (t : Total) → Comes s t → 4 < t .granted → (t .state .machine .halted ≡ true) × (t .steps ≡ 5)
 unfolding compiled
-sum-halts s l qs k h = by-fate s qs k h (agrees _ sum sum-accepted s l .fate sum-whole qs k)
+sum-halts s l t k h = by-end (agrees _ sum sum-accepted s l .ends sum-whole t k)
+  where
+    by-end : ListEnds sum start t → (t .state .machine .halted ≡ true) × (t .steps ≡ 5)
+    by-end (ListEnds.halts f τ e b h) = (h .halted, h .steps ∙ ap suc (sum-ends f τ e))
+    by-end (ListEnds.goes-on late made) = let l = sum-late (t .granted) late in absurd (omega arith)
 
 -- ---- It breaks off
 
@@ -94,12 +90,11 @@ pub outside-breaks : (τ : State) × Breaks τ (meaning 0 outside start) × (τ 
 unfolding computed outside
 outside-breaks = (_, Breaks.later Breaks.here, refl, refl)
 
-pub outside-stops : (s : machine.State) → Loaded (compiled outside) start s → (qs : List Request) (k : Clock) → budgetsOf qs s ≡ 2
-    → Meets outside (outside-breaks .0) (runsDef qs s k)
+pub outside-stops : (s : machine.State) → Loaded (compiled outside) start s → (t : Total) → Comes s t → t .granted ≡ 2 → Meets outside (outside-breaks .0) t
 unfolding compiled
-outside-stops s l qs k h =
+outside-stops s l t k h =
     let b = outside-breaks in
-    agrees _ outside outside-accepted s l .broken 0 (b .0) (b .1) qs k (h ∙ sym (b .2))
+    agrees _ outside outside-accepted s l .broken 0 (b .0) (b .1) t k (h ∙ sym (b .2))
 
 -- ---- It never ends
 
@@ -152,12 +147,10 @@ loop-endless : (f : ℕ) → Endless (meaning f loop start)
 unfolding computed loop Quiet
 loop-endless f = Endless.on (turns f _ _ no-key (λ σ. refl) start refl)
 
-loop-fate : (s : machine.State) (qs : List Request) (k : Clock) → Fate loop start s qs k
-    → (runsDef qs s k .state .machine .halted ≡ false) × (runsDef qs s k .steps ≡ budgetsOf qs s)
-loop-fate s qs k (Fate.halts f τ e b halted steps shows) = absurd (no-end (loop-endless f) e)
-loop-fate s qs k (Fate.goes-on late running steps) = (running, steps)
-
-pub loop-runs : (s : machine.State) → Loaded (compiled loop) start s → (qs : List Request) (k : Clock)
-    → (runsDef qs s k .state .machine .halted ≡ false) × (runsDef qs s k .steps ≡ budgetsOf qs s)
+pub loop-runs : (s : machine.State) → Loaded (compiled loop) start s → (t : Total) → Comes s t → AllMade t
 unfolding compiled
-loop-runs s l qs k = loop-fate s qs k (agrees _ loop loop-accepted s l .fate (λ f τ b. no-break (loop-endless f) b) qs k)
+loop-runs s l t k = by-end (agrees _ loop loop-accepted s l .ends (λ f τ b. no-break (loop-endless f) b) t k)
+  where
+    by-end : ListEnds loop start t → AllMade t
+    by-end (ListEnds.halts f τ e b h) = absurd (no-end (loop-endless f) e)
+    by-end (ListEnds.goes-on late made) = made

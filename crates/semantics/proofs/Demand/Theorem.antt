@@ -6,7 +6,7 @@ use Rattle.syntax.specs.State.{stateAfter}
 use Rattle.emission.specs.Map.{declared, imageOf}
 use Rattle.emission.specs.Compile.{Compiled, compiled}
 use Rattle.semantics.specs.Agreement.{Demand3}
-use Rattle.semantics.specs.WellFormed.{WellFormed}
+use Rattle.parsing_laws.specs.WellFormed.{WellFormed}
 use Rattle.semantics.specs.Laid.{LaidProgram}
 use Rattle.semantics.specs.Known.{knownOf, mapAt}
 use Rattle.semantics.proofs.MemoryMap.Bodies.{Placement}

@@ -12,7 +12,7 @@ use Rattle.syntax.specs.State.{stateAfter, localWords, linkOf}
 use Rattle.emission.specs.Map.{Frame, addressOf, wordOf, Word, frame, planOf}
 use Rattle.semantics.specs.Variables.{variablesOf}
 use Rattle.semantics.specs.Agreement.{Home}
-use Rattle.semantics.specs.WellFormed.{Kind, Context, IdOk, kindsOf}
+use Rattle.parsing_laws.specs.WellFormed.{Kind, Context, IdOk, kindsOf}
 use Rattle.semantics.specs.Laid.{Map, Sound, Direct, ArrayWord, ProcedureWord}
 use Rattle.semantics.specs.Known.{mapAt}
 

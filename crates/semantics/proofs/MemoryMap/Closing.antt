@@ -11,7 +11,7 @@ use Rattle.syntax.specs.Emission.{procedureWords, mainWords}
 use Rattle.syntax.specs.Pool.{literalsOf, indexOf}
 use Rattle.syntax.specs.State.{State, start, sectorOf, linkOf, step, finish}
 use Rattle.emission.specs.Map.{Word, frame, fixedWords, placeDeclaration, placeAll, poolsFrom, planOf}
-use Rattle.semantics.specs.WellFormed.{Kind, kindsOf}
+use Rattle.parsing_laws.specs.WellFormed.{Kind, kindsOf}
 use Rattle.semantics.specs.Known.{mapAt}
 use Rattle.semantics.proofs.MemoryMap.Placing.{placed-in}
 use Rattle.semantics.proofs.MemoryMap.Pools.{Prefix, prefix-refl, prefix-trans, all-prefix, holds-longer, value-there}

@@ -13,7 +13,7 @@ use Rattle.syntax.specs.Tree.{Name, Item, Stmts, Declaration, Program}
 use Rattle.syntax.specs.Symbols.{declare, declareItem}
 use Rattle.syntax.specs.State.{State, start, sectorOf, step, stateAfter, finish}
 use Rattle.syntax.specs.Limits.{spaceLimit, arrayLimit, sectorLimit, followLimit, declarationLimit, mainLimit}
-use Rattle.semantics.specs.WellFormed.{Kind, kindsOf, DeclarationOk, DeclarationsOk, none, more, WellFormed}
+use Rattle.parsing_laws.specs.WellFormed.{Kind, kindsOf, DeclarationOk, DeclarationsOk, none, more, WellFormed}
 
 -- ---- Limits that pass
 

@@ -13,7 +13,7 @@ use Rattle.syntax.specs.Emission.{procedureWords, mainWords}
 use Rattle.syntax.specs.Pool.{literalsOf}
 use Rattle.syntax.specs.State.{State, start, sectorOf, linkOf, step, stateAfter, finish}
 use Rattle.syntax.specs.Limits.{spaceLimit, arrayLimit, sectorLimit, followLimit, declarationLimit, mainLimit}
-use Rattle.semantics.specs.WellFormed.{Kind, itemKinds, kindsOf, DeclarationOk, DeclarationsOk, none, more}
+use Rattle.parsing_laws.specs.WellFormed.{Kind, itemKinds, kindsOf, DeclarationOk, DeclarationsOk, none, more}
 use Rattle.semantics.proofs.MemoryMap.Pools.{all-prefix, prefix-length}
 
 -- ---- From the front

@@ -10,7 +10,7 @@ use Rattle.syntax.specs.Symbols.{declare, declareItem, itemSymbol, wordsTaken}
 use Rattle.syntax.specs.Emission.{mainWords}
 use Rattle.syntax.specs.State.{State, start, sectorOf, step, stateAfter, finish}
 use Rattle.emission.specs.Map.{Word, Plan, frame, fixedWords, placed, placeDeclaration, placeAll, poolsFrom, declared, finished, planOf, mapOf}
-use Rattle.semantics.specs.WellFormed.{Kind, kindsOf, DeclarationOk, WellFormed}
+use Rattle.parsing_laws.specs.WellFormed.{Kind, kindsOf, DeclarationOk, WellFormed}
 use Rattle.semantics.proofs.MemoryMap.Placing.{placed-size}
 use Rattle.semantics.proofs.MemoryMap.Front.{FrontOk, front, kinds-on, Fits, next-follows, room, all-fits}
 use Rattle.semantics.proofs.MemoryMap.Items.{fixed-length}

@@ -10,7 +10,7 @@ use Rattle.syntax.specs.Tree.{Id, CellId, Name, Item, Stmts, Declaration, Progr
 use Rattle.syntax.specs.State.{State, localWords, step}
 use Rattle.emission.specs.Map.{Word, itemWords, localItems}
 use Rattle.semantics.specs.Variables.{itemVariables, itemConstants, wordsOf, localsBy, elementsOf, declaredBy}
-use Rattle.semantics.specs.WellFormed.{Kind, itemKinds, kindsOf}
+use Rattle.parsing_laws.specs.WellFormed.{Kind, itemKinds, kindsOf}
 use Rattle.semantics.specs.Laid.{ArrayWord, ProcedureWord}
 use Rattle.semantics.specs.Known.{mapAt}
 use Rattle.semantics.proofs.MemoryMap.Items.{local-length}

@@ -10,7 +10,7 @@ use Rattle.syntax.specs.Symbols.{Scope, itemSymbol, wordsTaken, declare, declar
 use Rattle.syntax.specs.State.{State, localWords}
 use Rattle.syntax.specs.Emission.{Sym}
 use Rattle.emission.specs.Map.{Word, Frame, wordOf, fixedWords, itemWords, localItems, elements}
-use Rattle.semantics.specs.WellFormed.{itemKinds}
+use Rattle.parsing_laws.specs.WellFormed.{itemKinds}
 use Rattle.semantics.specs.Laid.{Map}
 use Rattle.semantics.proofs.MemoryMap.Bodies.{Fixed, none, word}
 

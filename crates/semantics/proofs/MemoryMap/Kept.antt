@@ -10,7 +10,7 @@ use Rattle.syntax.specs.Symbols.{declare, declareItem}
 use Rattle.syntax.specs.Emission.{procedureWords}
 use Rattle.syntax.specs.State.{State, sectorOf, localWords, linkOf, step}
 use Rattle.emission.specs.Map.{Word, Plan, frame, fixedWords, placed, itemWords, localItems, elements, placeDeclaration}
-use Rattle.semantics.specs.WellFormed.{Kind, DeclarationOk}
+use Rattle.parsing_laws.specs.WellFormed.{Kind, DeclarationOk}
 use Rattle.semantics.proofs.MemoryMap.Placing.{placed-size, placed-before, placed-after}
 use Rattle.semantics.proofs.MemoryMap.Front.{Fits, array-fits, next-follows}
 use Rattle.semantics.proofs.MemoryMap.Items.{item-length, elements-length, procedure-length}

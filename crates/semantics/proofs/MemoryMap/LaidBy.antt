@@ -1,17 +1,20 @@
 -- Where each symbolic word stands in the map, the parts are laid. Assumes nothing.
 use Prim.Native.Nat.{ℕ, zero, suc, _+_}
-use mathlib.Core.Path.{_≡_, refl, sym, ap, subst, _∙_}
+use mathlib.Core.Path.{_≡_, refl, sym, subst, _∙_}
 use mathlib.Core.Bool.{true, false}
 use mathlib.Core.List.{List, [], _∷_}
-use native.Mathlib.Nat.{add-zero, zero-add, add-suc, suc-add}
+use native.Mathlib.Nat.{zero-add, add-suc, suc-add}
+use mathlib.Core.Option.{Option}
 use lib.ListN.{length}
+use Rattle.source.specs.Bytes.{given}
 use Rattle.instruction.specs.Code.{JMP, LDA, STA, JST, CAS, IRS, LDX}
+use Rattle.instruction.specs.Slot.{SPL, TCA}
 use Rattle.instruction.specs.declared.Instruction.the-variants.{Shift, Generic}
 use Rattle.syntax.specs.Tree.{Id, CellId, Array, Operand, Subscript, Cell, Unary, Operation, Expr, Term, Cond, Target, Stmt, Stmts}
-use Rattle.syntax.specs.Emission.{Sym, _⧺_, after, subscriptWords, cellWords, unaryWords, unariesWords, operatorCode, operationWords, operationsWords, Control, controls, controlWord, controlWords, exprEnd, termEnd, condEnd, targetCell, stmtEnd, stmtsEnd, exprWords, termWords, condWords, stmtWords, stmtsWords}
+use Rattle.syntax.specs.Emission.{Sym, _⧺_, Plain, plainWords, unaryPlain, shiftPlain, after, subscriptWords, reachWords, orderWord, cellWords, unaryWords, unariesWords, operatorCode, operationWords, operationsWords, Control, controls, controlWord, controlWords, exprEnd, termEnd, condEnd, targetCell, stmtEnd, stmtsEnd, exprWords, termWords, condWords, stmtWords, stmtsWords}
 use Rattle.emission.specs.Map.{Word}
-use Rattle.semantics.specs.Laid.{Map, Sits, Refers, Direct, named, ArrayWord, ProcedureWord, Known, Knows, LaidSubscript, LaidCell, LaidOn, LaidJump, LaidCall, LaidUnary, LaidUnaries, LaidOperations, controlSits, LaidControls, LaidExpr, LaidTerm, LaidCond, LaidStmt, LaidStmts}
-use Rattle.semantics.specs.WellFormed.{Context, ArrayOk, ProcedureOk, CellOk, OperationsOk, TermOk, CondOk, ExprBy, ExprOk, TargetOk, StmtBy, StmtsBy, IsEmpty, StmtOk}
+use Rattle.semantics.specs.Laid.{Map, Sits, Refers, Direct, named, ArrayWord, ProcedureWord, Known, Knows, LaidSubscript, LaidCell, LaidOn, LaidJump, LaidCall, LaidPlain, LaidUnary, LaidUnaries, LaidOperations, controlSits, LaidControls, LaidExpr, LaidTerm, LaidCond, LaidStmt, LaidStmts}
+use Rattle.parsing_laws.specs.WellFormed.{Context, ArrayOk, ProcedureOk, CellOk, OperationsOk, TermOk, CondOk, ExprBy, ExprOk, TargetOk, StmtBy, StmtsBy, IsEmpty, StmtOk}
 use Rattle.semantics.proofs.MemoryMap.Spans.{Span, join, same, along, span-expr, span-term, span-cond, span-stmt, span-stmts}
 
 -- what a context's arrays and procedures have in the map
@@ -52,30 +55,26 @@ module _ (M : Map) where
 
   -- ---- Words that name no procedure
 
-  one-on : (a : ℕ) → a + 1 ≡ suc a
-  one-on a = add-suc a 0 ∙ ap suc (add-zero a)
-
-  subscript : (r : Array) (s : Subscript) (a : ℕ) → Covers M a (subscriptWords r s) → LaidSubscript M s a (after (subscriptWords r s) a)
+  subscript : (r : Array) (s : Subscript) (a b : ℕ) → Span a (subscriptWords r s) b → Covers M a (subscriptWords r s) → LaidSubscript M r s a b
   unfolding subscriptWords
-  subscript r (Subscript.by o) a k = subst (LaidSubscript M (Subscript.by o) a) (sym (one-on a)) (LaidSubscript.by (first k .refers) (first k .direct))
-  subscript r Subscript.hash a k = subst (LaidSubscript M Subscript.hash a) (sym (add-zero a)) LaidSubscript.hash
+  subscript r (Subscript.by o) a b (Span.word Span.none) k = LaidSubscript.by (first k .refers) (first k .direct)
+  subscript r Subscript.hash a b Span.none k = LaidSubscript.hash
 
-  unary : (u : Unary) (a : ℕ) → Covers M a (unaryWords u) → LaidUnary M u a (after (unaryWords u) a)
+  plain : (ps : List Plain) (a b : ℕ) → Span a (plainWords ps) b → Covers M a (plainWords ps) → LaidPlain M ps a b
+  plain [] a b Span.none k = LaidPlain.none
+  plain (Plain.generic slot ∷ ps) a b (Span.word q) (Covers.word s k) = LaidPlain.generic s (plain ps (suc a) b q k)
+  plain (Plain.shift kind n ∷ ps) a b (Span.word q) (Covers.word s k) = LaidPlain.shift s (plain ps (suc a) b q k)
+
+  unary : (u : Unary) (a b : ℕ) → Span a (unaryWords u) b → Covers M a (unaryWords u) → LaidUnary M u a b
   unfolding unaryWords
-  unary Unary.addc a k = subst (LaidUnary M Unary.addc a) (sym (one-on a)) (LaidUnary.one refl (first k))
-  unary Unary.inc a k = subst (LaidUnary M Unary.inc a) (sym (one-on a)) (LaidUnary.one refl (first k))
-  unary Unary.neg a k = subst (LaidUnary M Unary.neg a) (sym (one-on a)) (LaidUnary.one refl (first k))
-  unary Unary.ssp a k = subst (LaidUnary M Unary.ssp a) (sym (one-on a)) (LaidUnary.one refl (first k))
-  unary Unary.ssm a k = subst (LaidUnary M Unary.ssm a) (sym (one-on a)) (LaidUnary.one refl (first k))
-  unary Unary.chs a k = subst (LaidUnary M Unary.chs a) (sym (one-on a)) (LaidUnary.one refl (first k))
-  unary Unary.csa a k = subst (LaidUnary M Unary.csa a) (sym (one-on a)) (LaidUnary.one refl (first k))
-  unary Unary.not a k = subst (LaidUnary M Unary.not a) (sym (one-on a)) (LaidUnary.one refl (first k))
-  unary Unary.icleft a k = subst (LaidUnary M Unary.icleft a) (sym (one-on a)) (LaidUnary.one refl (first k))
-  unary Unary.cleft a k = subst (LaidUnary M Unary.cleft a) (sym (one-on a)) (LaidUnary.one refl (first k))
-  unary Unary.swop a k = subst (LaidUnary M Unary.swop a) (sym (one-on a)) (LaidUnary.one refl (first k))
-  unary Unary.icright a k = subst (LaidUnary M Unary.icright a) (sym (one-on a)) (LaidUnary.one refl (first k))
-  unary Unary.cright a k = subst (LaidUnary M Unary.cright a) (sym (one-on a)) (LaidUnary.one refl (first k))
-  unary Unary.abs a k = subst (LaidUnary M Unary.abs a) (sym (add-suc a 1 ∙ ap suc (one-on a))) (LaidUnary.abs (first k) (first (rest k)))
+  unary u a b q k = go (unaryPlain u) refl b q k
+    where
+      words : Option Plain → List Sym
+      words o = given o (λ p. plainWords (p ∷ [])) (λ _. Sym.generic SPL ∷ Sym.generic TCA ∷ [])
+
+      go : (o : Option Plain) → unaryPlain u ≡ o → (b : ℕ) → Span a (words o) b → Covers M a (words o) → LaidUnary M u a b
+      go (Option.some p) e b q k = LaidUnary.plain e (plain (p ∷ []) a b q k)
+      go Option.none e b (Span.word (Span.word Span.none)) k = LaidUnary.abs e (first k) (first (rest k))
 
   -- the last unary word is laid first
   unaries : (us : List Unary) (a b : ℕ) → Span a (unariesWords us) b → Covers M a (unariesWords us) → LaidUnaries M us a b
@@ -85,7 +84,7 @@ module _ (M : Map) where
       let q = split (along (unariesWords us) a) k in
       let m = after (unariesWords us) a in
       subst (LaidUnaries M (u ∷ us) a) (ends p)
-      (LaidUnaries.more (unaries us a m (along (unariesWords us) a) (q .0)) (unary u m (q .1)))
+      (LaidUnaries.more (unaries us a m (along (unariesWords us) a) (q .0)) (unary u m _ (along (unaryWords u) m) (q .1)))
     where
       ends : Span a (unariesWords us ⧺ unaryWords u) b → after (unaryWords u) (after (unariesWords us) a) ≡ b
       ends p = same (join (along (unariesWords us) a) (along (unaryWords u) _)) p
@@ -122,13 +121,18 @@ module _ (M : Map) (ps : Known) (x : Context) (g : Globals M ps x) (once : (k l 
     (x-at : M 0 ≡ Word.cell (CellId.named Id.x) 0) where
   -- ---- Cells and operations
 
+  -- what reaches a cell, and then the instruction on it
+  reached : (code : ℕ) (c : Cell) (a m : ℕ) → CellOk x c → Span a (reachWords c) m → Covers M a (reachWords c) → Stands M m (orderWord code c) → LaidOn M code c a (suc m)
+  unfolding reachWords orderWord
+  reached code (Cell.plain o) a m h Span.none k s = LaidOn.on (LaidCell.plain (s .direct)) (s .refers)
+  reached code (Cell.item r s) a m h p k t = LaidOn.on (LaidCell.item (subscript M r s a m p k) (g .arrays r (h .0))) t
+
   on-cell : (code : ℕ) (c : Cell) (a : ℕ) → CellOk x c → Covers M a (cellWords code c) → LaidOn M code c a (after (cellWords code c) a)
   unfolding cellWords
-  on-cell code (Cell.plain o) a h k = subst (LaidOn M code (Cell.plain o) a) (sym (one-on M a)) (LaidOn.on (LaidCell.plain (first M k .direct)) (first M k .refers))
-  on-cell code (Cell.item r s) a h k =
-      let q = split M (along (subscriptWords r s) a) k in
-      subst (LaidOn M code (Cell.item r s) a) (same (join (along (subscriptWords r s) a) (Span.word Span.none)) (along (subscriptWords r s ⧺ Sym.through code (r .number) ∷ []) a))
-      (LaidOn.on (LaidCell.item (subscript M r s a (q .0)) (g .arrays r (h .0))) (first M (q .1)))
+  on-cell code c a h k =
+      let p = along (reachWords c) a in
+      let q = split M p k in
+      subst (LaidOn M code c a) (same (join p (Span.word Span.none)) (along (reachWords c ⧺ orderWord code c ∷ []) a)) (reached code c a _ h p (q .0) (first M (q .1)))
 
   operations : (os : List Operation) (a b : ℕ) → OperationsOk x os → Span a (operationsWords os) b → Covers M a (operationsWords os) → LaidOperations M os a b
   unfolding operationsWords operationWords
@@ -141,7 +145,7 @@ module _ (M : Map) (ps : Known) (x : Context) (g : Globals M ps x) (once : (k l 
       (operations os m (after (operationsWords os) m) (h .1) (along (operationsWords os) m) (q .1)))
   operations (Operation.shift s n ∷ os) a b h p k =
       let q = split M (Span.word Span.none) k in
-      LaidOperations.shift (first M (q .0))
+      LaidOperations.shift (plain M (shiftPlain s n ∷ []) a (suc a) (Span.word Span.none) (q .0))
       (subst (LaidOperations M os (suc a)) (same (join (Span.word Span.none) (along (operationsWords os) (suc a))) p)
       (operations os (suc a) (after (operationsWords os) (suc a)) (h .1) (along (operationsWords os) (suc a)) (q .1)))
 

@@ -13,13 +13,13 @@ use Rattle.syntax.specs.State.{State, start, sectorOf, stateAfter, localWords, 
 use Rattle.emission.specs.Map.{Frame, addressOf, Word, Plan, frame, fixedWords, placeAll, planOf}
 use Rattle.semantics.specs.Variables.{itemVariables, elementsOf, declaredBy, variablesOf, constantsOf}
 use Rattle.semantics.specs.Agreement.{Home}
-use Rattle.semantics.specs.WellFormed.{Kind, IdOk, kindsOf, WellFormed}
+use Rattle.parsing_laws.specs.WellFormed.{Kind, IdOk, kindsOf, WellFormed}
 use Rattle.semantics.specs.Laid.{Direct, named, literal}
 use Rattle.semantics.specs.Known.{mapAt}
 use Rattle.semantics.proofs.MemoryMap.Bodies.{Near, Body, Placement}
 use Rattle.semantics.proofs.MemoryMap.Placing.{placed-in, placed-first}
 use Rattle.semantics.proofs.MemoryMap.Pools.{Prefix, prefix-refl, all-hold}
-use Rattle.semantics.proofs.Acceptance.Scopes.{kinds-append}
+use Rattle.parsing_laws.proofs.Parsed.Scopes.{kinds-append}
 use Rattle.semantics.proofs.MemoryMap.Items.{Local, fixed-length, fixed-from}
 use Rattle.semantics.proofs.MemoryMap.Kept.{Room, Outside}
 use Rattle.semantics.proofs.MemoryMap.Here.{Here, next, placing, split, tail, tail-length, last-pool, kept, empty, begin}

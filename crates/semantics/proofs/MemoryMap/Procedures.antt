@@ -7,7 +7,7 @@ use native.Mathlib.Omega.{arith}
 use lib.ListN.{length, getD, length-append}
 use Rattle.syntax.specs.Tree.{Item, Declaration}
 use Rattle.semantics.specs.Meaning.{globalsOf}
-use Rattle.semantics.specs.WellFormed.{Kind, kindsOf}
+use Rattle.parsing_laws.specs.WellFormed.{Kind, kindsOf}
 use Rattle.semantics.specs.Laid.{Known, Knows}
 use Rattle.semantics.proofs.MemoryMap.Front.{kinds-cons}
 use Rattle.semantics.specs.Known.{withProcedure, knownFrom, knownOf}

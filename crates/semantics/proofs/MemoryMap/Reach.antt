@@ -21,7 +21,7 @@ use Rattle.syntax.specs.Emission.{Sym, after}
 use Rattle.syntax.specs.Pool.{literalOf, literalsOf}
 use Rattle.emission.specs.Map.{Frame, addressOf, reference, wordOf, Word}
 use Rattle.semantics.specs.Laid.{Map, Refers, Direct}
-use Rattle.semantics.specs.WellFormed.{Context, IdOk, OperandOk}
+use Rattle.parsing_laws.specs.WellFormed.{Context, IdOk, OperandOk}
 use Rattle.semantics.proofs.MemoryMap.LaidBy.{Stands, Covers}
 use Rattle.semantics.proofs.MemoryMap.Words.{CodeOk, WordOk, AllOk}
 use Rattle.semantics.proofs.MemoryMap.Bodies.{Fixed, Near}

@@ -14,7 +14,7 @@ use Rattle.syntax.specs.Emission.{procedureWords}
 use Rattle.syntax.specs.State.{State, sectorOf, localWords, linkOf, step}
 use Rattle.emission.specs.Map.{Word, Frame, frame, fixedWords, placed, itemWords, localItems, elements, placeDeclaration, planOf}
 use Rattle.semantics.specs.Acts.{isInside}
-use Rattle.semantics.specs.WellFormed.{Kind, itemKinds, kindsOf}
+use Rattle.parsing_laws.specs.WellFormed.{Kind, itemKinds, kindsOf}
 use Rattle.semantics.specs.Laid.{ArrayWord, ProcedureWord}
 use Rattle.semantics.specs.Known.{mapAt}
 use Rattle.semantics.proofs.MemoryMap.Bodies.{Fixed}

@@ -10,7 +10,7 @@ use Rattle.syntax.specs.Emission.{procedureWords, mainWords}
 use Rattle.syntax.specs.State.{State, start, localWords, linkOf, stateAfter}
 use Rattle.emission.specs.Map.{Word, Plan, frame, wordOf, fixedWords, placed, localItems, placeDeclaration, placeAll, planOf, mapOf}
 use Rattle.emission.specs.Map as map
-use Rattle.semantics.specs.WellFormed.{WellFormed}
+use Rattle.parsing_laws.specs.WellFormed.{WellFormed}
 use Rattle.semantics.specs.Known.{mapAt}
 use Rattle.semantics.proofs.MemoryMap.AtHome.{Spots, AtHome, at-home, homes-append, homes-fixed, homes-free, Settled, settle, item-home, locals-home, elements-home}
 use Rattle.semantics.proofs.MemoryMap.AtHome as homes

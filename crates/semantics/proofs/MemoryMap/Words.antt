@@ -14,8 +14,8 @@ use Rattle.instruction.specs.Table.{generics, tableOf}
 use Rattle.instruction.specs.Decode.{findWord, genericOf, isShift, shiftOf, memoryOf, decodeDef}
 use Rattle.instruction.proofs.Rows.{isAt}
 use Rattle.syntax.specs.Tree.{Id, Array, Operand, Subscript, Cell, Unary, Operator, Shift, Operation, Test, Bare, Expr, Term, Cond, Target, Stmt, Stmts}
-use Rattle.syntax.specs.Emission.{Sym, _⧺_, after, subscriptWords, cellWords, unaryWords, unariesWords, operatorCode, shiftKind, operationWords, operationsWords, testSlot, bareSlot, Control, controls, controlWord, controlWords, exprEnd, termEnd, condEnd, targetCell, stmtEnd, stmtsEnd, exprWords, termWords, condWords, stmtWords, stmtsWords}
-use Rattle.semantics.specs.WellFormed.{Kind, Context, IdOk, OperandOk, ArrayOk, ProcedureOk, CellOk, OperationsOk, TermOk, CondOk, ExprBy, ExprOk, TargetOk, StmtBy, StmtsBy, IsEmpty, StmtOk}
+use Rattle.syntax.specs.Emission.{Sym, _⧺_, after, subscriptWords, reachWords, orderWord, cellWords, unaryWords, unariesWords, operatorCode, shiftKind, operationWords, operationsWords, testSlot, bareSlot, Control, controls, controlWord, controlWords, exprEnd, termEnd, condEnd, targetCell, stmtEnd, stmtsEnd, exprWords, termWords, condWords, stmtWords, stmtsWords}
+use Rattle.parsing_laws.specs.WellFormed.{Kind, Context, IdOk, OperandOk, ArrayOk, ProcedureOk, CellOk, OperationsOk, TermOk, CondOk, ExprBy, ExprOk, TargetOk, StmtBy, StmtsBy, IsEmpty, StmtOk}
 use Rattle.semantics.proofs.MemoryMap.Spans.{Span, span-expr, span-cond, span-stmt, span-stmts, span-end, along}
 
 -- a code of the instruction table
@@ -67,11 +67,20 @@ module _ (x : Context) (lo hi : ℕ) where
   abbrev A : List Sym → Type 0
   A ws = AllOk x lo hi ws
 
+  reaching : (c : Cell) → CellOk x c → A (reachWords c)
+  unfolding reachWords subscriptWords
+  reaching (Cell.plain o) h = none
+  reaching (Cell.item r (Subscript.by o)) h = word {w = Sym.memory LDX o} (inr refl, h .1) none
+  reaching (Cell.item r Subscript.hash) h = none
+
+  order : (code : ℕ) (c : Cell) → CodeOk code → CellOk x c → WordOk x lo hi (orderWord code c)
+  unfolding orderWord
+  order code (Cell.plain o) k h = (k, h)
+  order code (Cell.item r s) k h = (k, array-among r (h .0))
+
   cell : (code : ℕ) (c : Cell) → CodeOk code → CellOk x c → A (cellWords code c)
-  unfolding cellWords subscriptWords _⧺_
-  cell code (Cell.plain o) k h = word {w = Sym.memory code o} (k, h) none
-  cell code (Cell.item r (Subscript.by o)) k h = word {w = Sym.memory LDX o} (inr refl, h .1) (word {w = Sym.through code (r .number)} (k, array-among r (h .0)) none)
-  cell code (Cell.item r Subscript.hash) k h = word {w = Sym.through code (r .number)} (k, array-among r (h .0)) none
+  unfolding cellWords
+  cell code c k h = both (reaching c h) (word {w = orderWord code c} (order code c k h) none)
 
   unary : (u : Unary) → A (unaryWords u)
   unfolding unaryWords isAt decodeDef genericOf findWord generics shiftOf memoryOf tableOf

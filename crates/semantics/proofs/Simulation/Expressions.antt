@@ -10,7 +10,7 @@ use Rattle.emission.specs.Map.{Word}
 use Rattle.semantics.specs.Trace.{State, Trace, bind, next}
 use Rattle.semantics.specs.Acts.{tick, jump}
 use Rattle.semantics.specs.Meaning.{Procedures, called, termBy, condBy, exprBy, exprAt}
-use Rattle.semantics.specs.WellFormed.{Context, TermOk, CondOk, ExprBy, ExprOk}
+use Rattle.parsing_laws.specs.WellFormed.{Context, TermOk, CondOk, ExprBy, ExprOk}
 use Rattle.semantics.specs.Laid.{Map, Sound, Known, Knows, LaidCall, LaidTerm, LaidCond, LaidExpr}
 use Rattle.semantics.proofs.Simulation.Relate.{Pending, Links, pend-same, pend-other, At, forget, lower, relax, follow}
 use Rattle.semantics.proofs.Simulation.Orders.{do-generic, do-call}

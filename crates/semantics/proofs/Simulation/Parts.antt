@@ -15,16 +15,16 @@ use Rattle.instruction.specs.declared.Instruction.the-variants.{Generic}
 use Rattle.instruction.proofs.Choice.{cond-when}
 use Rattle.machine.specs.State as machine
 use Rattle.syntax.specs.Tree.{CellId, Array, Subscript, Cell, Unary, Operation, Relation, Target}
-use Rattle.syntax.specs.Emission.{controls, targetCell}
+use Rattle.syntax.specs.Emission.{Plain, controls, targetCell}
 use Rattle.emission.specs.Map.{Word}
 use Rattle.semantics.specs.Trace.{State, Trace, bind, next, ended}
-use Rattle.semantics.specs.Acts.{tick, xCell, Place, placeOf, valueOf, subscripted, isInside, element, asPlace, reach, operate, storeA, setX, absolute, test, jump, counted}
+use Rattle.semantics.specs.Acts.{tick, xCell, Place, placeOf, valueOf, subscripted, isInside, element, entered, asPlace, reach, operate, storeA, setX, absolute, plainOn, test, jump, counted}
 use Rattle.semantics.specs.Meaning.{unaryOn, unariesOn, operationOn, operationsOn, chosen, orderOf, wordsAfter, ticks, related, assigned}
-use Rattle.semantics.specs.Laid.{Map, Sound, Sits, Refers, ArrayWord, LaidSubscript, LaidCell, LaidOn, LaidJump, LaidUnary, LaidUnaries, LaidOperations, LaidControls}
+use Rattle.semantics.specs.Laid.{Map, Sound, Sits, Refers, ArrayWord, LaidSubscript, LaidCell, LaidOn, LaidJump, LaidPlain, LaidUnary, LaidUnaries, LaidOperations, LaidControls}
 use Rattle.semantics.proofs.Simulation.Relate.{Links, At, stands, Ok, ok-done, ok-broke, ok-observe, follow}
 use Rattle.semantics.proofs.Simulation.Orders as orders
 use Rattle.semantics.proofs.Simulation.Orders.{Located, Reads, Skips, do-generic, do-shift, do-test, do-read, do-store, do-load-x, do-jump, do-compare, do-count, located-direct, located-element}
-use Rattle.semantics.proofs.Simulation.Classes.{operator-reads, complement-acts, sign-skips, unary-acts}
+use Rattle.semantics.proofs.Simulation.Classes.{operator-reads, complement-acts, sign-skips, Acts, UnaryActs, unary-acts}
 use Rattle.semantics.proofs.Simulation.Control.{fork, skipped, order-skips, table, jump-below, within, sim-controls}
 
 pub le₁ : (n : ℕ) → n ≤ suc n
@@ -44,30 +44,30 @@ module _ (M : Map) (sound : Sound M) (s₀ : machine.State) (N : ℕ) where
 
   -- ---- Cells
 
-  sim-subscript : {κ : Links} {s : Subscript} {a b : ℕ} {σ : State} {m : List ℕ} → LaidSubscript M s a b → At M sound s₀ κ a σ m
-      → (n : List ℕ) × At M sound s₀ κ b (subscripted s σ) n × (σ .steps ≤ subscripted s σ .steps)
-  unfolding subscripted
-  sim-subscript {σ = σ} (LaidSubscript.by r d) h = (_, do-load-x M sound s₀ h r (located-direct M sound s₀ h d), le₁ (σ .steps))
-  sim-subscript {m = m} LaidSubscript.hash h = (m, h, le-refl _)
-
   -- the operand of the instruction at b
   abbrev Found : Links → ℕ → Bool → ℕ → Place → State → List ℕ → Type 0
   Found κ b indirect k l σ m = At M sound s₀ κ b σ m × Located M m indirect k l
 
-  sim-element : {κ : Links} {r : Array} {b k low : ℕ} {σ : State} {m : List ℕ} → low ≤ σ .steps → ArrayWord M r k → At M sound s₀ κ b σ m
-      → Ok M sound s₀ N (λ j. Found κ b true k (Place.held j)) low (element r σ)
+  -- the element that X names, of the array whose word is at k
+  abbrev Enters : Links → ℕ → ℕ → ℕ → Trace CellId → Type 0
+  Enters κ b k low t = Ok M sound s₀ N (λ j. Found κ b true k (Place.held j)) low t
+
+  named : {κ : Links} {r : Array} {b k low : ℕ} {σ : State} {m : List ℕ} → low ≤ σ .steps → ArrayWord M r k → At M sound s₀ κ b σ m → Enters κ b k low (element r σ)
   unfolding element
-  sim-element {κ} {r} {b} {k} {low} {σ} {m} l w h =
-      cond-when (λ (t : Trace CellId). Ok M sound s₀ N (λ j. Found κ b true k (Place.held j)) low t) (isInside r (σ .cells xCell)) _ _
-      (λ e. ok-done m l (h, located-element M sound s₀ h w e))
-      (λ e. ok-broke l (stands M sound s₀ h))
+  named {κ} {r} {b} {k} {low} {σ} {m} l w h =
+      cond-when (Enters κ b k low) (isInside r (σ .cells xCell)) _ _ (λ e. ok-done m l (h, located-element M sound s₀ h w e)) (λ e. ok-broke l (stands M sound s₀ h))
+
+  sim-entered : {κ : Links} {r : Array} {s : Subscript} {a b k : ℕ} {σ : State} {m : List ℕ} → LaidSubscript M r s a b → ArrayWord M r k → At M sound s₀ κ a σ m
+      → Enters κ b k (σ .steps) (entered r s σ)
+  unfolding entered subscripted
+  sim-entered {σ = σ} (LaidSubscript.by r d) w h = named (le₁ (σ .steps)) w (do-load-x M sound s₀ h r (located-direct M sound s₀ h d))
+  sim-entered LaidSubscript.hash w h = named (le-refl _) w h
 
   sim-cell : {κ : Links} {c : Cell} {a b k : ℕ} {indirect : Bool} {σ : State} {m : List ℕ} → LaidCell M c a b indirect k → At M sound s₀ κ a σ m
       → Ok M sound s₀ N (Found κ b indirect k) (σ .steps) (reach c σ)
   unfolding reach asPlace
   sim-cell {m = m} (LaidCell.plain d) h = ok-done m (le-refl _) (h, located-direct M sound s₀ h d)
-  sim-cell (LaidCell.item s w) h =
-      let r = sim-subscript s h in follow M sound s₀ (sim-element (r .2) w (r .1)) (λ j σ₁ m₁ l q. ok-done m₁ (le-refl _) q)
+  sim-cell (LaidCell.item s w) h = follow M sound s₀ (sim-entered s w h) (λ j σ₁ m₁ l q. ok-done m₁ (le-refl _) q)
 
   pub sim-read : {κ : Links} {code a b : ℕ} {c : Cell} {σ : State} {m : List ℕ} → Reads code → LaidOn M code c a b → At M sound s₀ κ a σ m
       → Follows κ b (σ .steps) (bind (reach c σ) (operate code))
@@ -85,8 +85,7 @@ module _ (M : Map) (sound : Sound M) (s₀ : machine.State) (N : ℕ) where
   sim-assigned {σ = σ} (Target.integer i) (LaidOn.on (LaidCell.plain d) r) h =
       ok-done _ (le₁ (σ .steps)) (do-store M sound s₀ h r (located-direct M sound s₀ h d))
   sim-assigned (Target.item a s) (LaidOn.on (LaidCell.item c w) r) h =
-      let x = sim-subscript c h in
-      follow M sound s₀ (sim-element (x .2) w (x .1)) (λ j σ₁ m₁ le q. ok-done _ (le₁ (σ₁ .steps)) (do-store M sound s₀ (q .0) r (q .1)))
+      follow M sound s₀ (sim-entered c w h) (λ j σ₁ m₁ le q. ok-done _ (le₁ (σ₁ .steps)) (do-store M sound s₀ (q .0) r (q .1)))
 
   -- ---- Unary words and operations
 
@@ -96,15 +95,18 @@ module _ (M : Map) (sound : Sound M) (s₀ : machine.State) (N : ℕ) where
   pub moved : {κ : Links} {b low : ℕ} {τ : State} {m : List ℕ} → At M sound s₀ κ b τ m → low ≤ τ .steps → Follows κ b low (Trace.done tt τ)
   moved {m = m} h l = ok-done m l h
 
+  sim-plain : {κ : Links} {ps : List Plain} {a b : ℕ} {σ : State} {m : List ℕ} → LaidPlain M ps a b → Acts ps → At M sound s₀ κ a σ m → Moves κ b σ (plainOn ps σ) m
+  sim-plain LaidPlain.none acts h = (h, le-refl _)
+  sim-plain {σ = σ} (LaidPlain.generic s k) acts h = let x = sim-plain k (acts .1) (do-generic M sound s₀ h (acts .0) s) in (x .0, le-trans (le₁ (σ .steps)) (x .1))
+  sim-plain {σ = σ} (LaidPlain.shift s k) acts h = let x = sim-plain k acts (do-shift M sound s₀ h s) in (x .0, le-trans (le₁ (σ .steps)) (x .1))
+
   sim-unary : {κ : Links} {u : Unary} {a b : ℕ} {σ : State} {m : List ℕ} → LaidUnary M u a b → At M sound s₀ κ a σ m → Moves κ b σ (unaryOn u σ) m
   unfolding unaryOn absolute
-  sim-unary {κ} {u} {a} {b} {σ} {m} (LaidUnary.one {slot = slot} e s) h =
-      let acts = unary-acts u slot e in
-      subst (λ (τ : State). Moves κ b σ τ m) (sym (acts .1 σ)) (do-generic M sound s₀ h (acts .0) s, le₁ (σ .steps))
-  sim-unary {κ} {u} {a} {b} {σ} {m} (LaidUnary.abs s t) h =
-      cond-when (λ (τ : State). Moves κ b σ τ m) (skipsOf SPL (σ .registers) (σ .switches)) _ _
+  sim-unary {u = u} (LaidUnary.plain e k) h = rw e (sim-plain k (subst UnaryActs e (unary-acts u)) h)
+  sim-unary {κ} {u} {a} {b} {σ} {m} (LaidUnary.abs e s t) h =
+      rw e (cond-when (λ (τ : State). Moves κ b σ τ m) (skipsOf SPL (σ .registers) (σ .switches)) _ _
       (λ e. (do-test M sound s₀ h sign-skips s true e (orders.over _ (t .below)), le₁ (σ .steps)))
-      (λ e. (do-generic M sound s₀ (do-test M sound s₀ h sign-skips s false e (orders.next _ (s .below))) complement-acts t, le₂ (σ .steps)))
+      (λ e. (do-generic M sound s₀ (do-test M sound s₀ h sign-skips s false e (orders.next _ (s .below))) complement-acts t, le₂ (σ .steps))))
 
   pub sim-unaries : {κ : Links} {us : List Unary} {a b : ℕ} {σ : State} {m : List ℕ} → LaidUnaries M us a b → At M sound s₀ κ a σ m
       → Moves κ b σ (unariesOn us σ) m
@@ -120,8 +122,8 @@ module _ (M : Map) (sound : Sound M) (s₀ : machine.State) (N : ℕ) where
   unfolding operationsOn operationOn next
   sim-operations {m = m} LaidOperations.none h = ok-done m (le-refl _) h
   sim-operations (LaidOperations.binary {o = o} c os) h = follow M sound s₀ (sim-read (operator-reads o) c h) (λ u σ₁ m₁ l h₁. sim-operations os h₁)
-  sim-operations {σ = σ} {m = m} (LaidOperations.shift s os) h =
-      follow M sound s₀ (moved (do-shift M sound s₀ h s) (le₁ (σ .steps))) (λ u σ₁ m₁ l h₁. sim-operations os h₁)
+  sim-operations (LaidOperations.shift s os) h =
+      let x = sim-plain s tt h in follow M sound s₀ (moved (x .0) (x .1)) (λ u σ₁ m₁ l h₁. sim-operations os h₁)
 
   -- ---- Tests and relations
 

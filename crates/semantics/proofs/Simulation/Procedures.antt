@@ -6,7 +6,7 @@ use Rattle.syntax.specs.Tree.{Stmts, Declaration}
 use Rattle.syntax.specs.State as syntax
 use Rattle.semantics.specs.Trace.{Trace}
 use Rattle.semantics.specs.Meaning.{Procedures, globalsOf, withDeclaration, proceduresFrom, proceduresOf}
-use Rattle.semantics.specs.WellFormed.{Context, Kind, StmtsBy, StmtOk, DeclarationOk, DeclarationsOk}
+use Rattle.parsing_laws.specs.WellFormed.{Context, Kind, StmtsBy, StmtOk, DeclarationOk, DeclarationsOk}
 use Rattle.semantics.specs.Laid.{Map, Sound, Known, Knows, LaidProcedure, LaidProcedures}
 use Rattle.semantics.specs.Known.{withProcedure, knownFrom, knownOf}
 use Rattle.semantics.proofs.Simulation.Expressions.{Obeys}

@@ -15,7 +15,7 @@ use Rattle.emission.specs.Map.{Word}
 use Rattle.semantics.specs.Trace.{State, Trace, bind, next}
 use Rattle.semantics.specs.Acts.{tick, placeOf, storeA, jump}
 use Rattle.semantics.specs.Meaning.{Procedures, called, whileTurns, forTurns, stmtsBy, condBy, exprAt, bodyBy, stmtAt, outermost}
-use Rattle.semantics.specs.WellFormed.{Context, CondOk, IsEmpty, ExprOk, StmtsBy, StmtBy, StmtOk}
+use Rattle.parsing_laws.specs.WellFormed.{Context, CondOk, IsEmpty, ExprOk, StmtsBy, StmtBy, StmtOk}
 use Rattle.semantics.specs.Laid.{Map, Sound, Refers, Direct, Known, Knows, LaidJump, LaidCall, LaidCond, LaidStmt, LaidStmts, LaidProcedure}
 use Rattle.semantics.proofs.Simulation.Relate.{Pending, Links, At, stands, ok-done, ok-out, lower, follow}
 use Rattle.semantics.proofs.Simulation.Orders.{do-store, do-jump, do-return, located-direct}

@@ -1,18 +1,16 @@
 -- Demand 3 for every program that is laid: it agrees with its meaning under every list of runs. Assumes nothing.
 use Prim.Native.Nat.{ℕ, suc, _≤_, _<_}
 use mathlib.Core.Path.{_≡_, refl, ap, subst, _∙_}
-use mathlib.Core.Bool.{true, false}
+use mathlib.Core.Bool.{false}
 use mathlib.Core.List.{List, List·Memᴰ}
 use native.Mathlib.Nat.{le-refl}
 use native.Mathlib.Omega.{arith}
 use native.Mathlib.Decide.{decLt}
 use lib.ListN.{getD, List·getD-map}
-use Rattle.machine.specs.declared.Clock.{Clock}
-use Rattle.machine.specs.declared.Request.{Request}
 use Rattle.machine.specs.declared.Machine.{Machine}
 use Rattle.machine.specs.State as machine
 use Rattle.runs.specs.Steps.{Steps}
-use Rattle.runs.specs.Runs.{Total, runsDef, budgetsOf}
+use Rattle.runs.specs.Runs.{Total, Comes}
 use Rattle.runs.proofs.Lists as runs
 use Rattle.syntax.specs.Tree.{CellId}
 use Rattle.emission.specs.Map.{Word, initial, mapOf, imageOf}
@@ -20,8 +18,8 @@ use Rattle.emission.specs.Compile.{Compiled}
 use Rattle.semantics.specs.Trace.{State, Trace}
 use Rattle.semantics.specs.Meaning.{meaning}
 use Rattle.semantics.specs.Variables.{variablesOf}
-use Rattle.semantics.specs.Agreement.{Loaded, Holds, Shows, Home, Observes, Ends, Breaks, RunsOut, Rising, Meets, Fate, Agrees}
-use Rattle.semantics.specs.WellFormed.{WellFormed}
+use Rattle.semantics.specs.Agreement.{Loaded, Holds, Shows, Home, Observes, Ends, Breaks, RunsOut, Rising, Meets, AllMade, HaltsAfter, ListEnds, Agrees}
+use Rattle.parsing_laws.specs.WellFormed.{WellFormed}
 use Rattle.semantics.specs.Laid.{LaidProgram}
 use Rattle.semantics.specs.Known.{knownOf, mapAt}
 use Rattle.semantics.proofs.Simulation.Relate.{Pending, Links, Serves, machineOf, At, peek, Stands, stands, ok-done, ok-broke, ok-out, ok-observe}
@@ -126,69 +124,64 @@ module _ (c : Compiled) (is : c .image ≡ imageOf (c .program)) (well : WellFor
       → (n : Machine) → n .registers ≡ τ .registers → Shows (c .program) τ (machine.state n m)
   shows h n e = record { registers = e; cells = λ k i v b here. peek (mapAt (c .program)) (laid .sound) s h k (Word.cell i v) b here }
 
-  meets : (τ : State) → Standing τ → (qs : List Request) (k : Clock) → budgetsOf qs s ≡ τ .steps → Meets (c .program) τ (runsDef qs s k)
-  meets τ h qs k e =
-      let r = runs.reached qs k (h .at .made) e in
+  meets : (τ : State) → Standing τ → (t : Total) → Comes s t → t .granted ≡ τ .steps → Meets (c .program) τ t
+  meets τ h t (Comes.list qs) e =
+      let r = runs.reached qs (h .at .made) e in
       record {
         steps = r .1;
         running = ap (λ (u : machine.State). u .machine .halted) (r .0);
         shows = rw (r .0) (shows (h .at) (machineOf τ (h .p)) refl);
       }
 
-  -- the list halts one step after the end
-  record Halts (τ : State) (t : Total) : Type 0 where
-    halted : t .state .machine .halted ≡ true
-    steps : t .steps ≡ suc (τ .steps)
-    shown : Shows (c .program) τ (t .state)
+  -- budgets that the machine makes in full
+  all-made : (τ : State) → Standing τ → (t : Total) → Comes s t → t .granted ≤ τ .steps → AllMade t
+  all-made τ h t (Comes.list qs) l = let r = runs.all-made qs (h .at .made) refl l in record { steps = r .1; running = r .0 }
 
-  halts-at : (f : ℕ) (τ : State) → Ends τ (meaning f (c .program) σ) → (qs : List Request) (k : Clock) → τ .steps < budgetsOf qs s → Halts τ (runsDef qs s k)
-  halts-at f τ e qs k l =
+  halts-at : (f : ℕ) (τ : State) → Ends τ (meaning f (c .program) σ) → (t : Total) → Comes s t → τ .steps < t .granted → HaltsAfter (c .program) τ t
+  halts-at f τ e t (Comes.list qs) l =
       let x = end-of (followed f) e in
-      let r = runs.halts qs k (x .1 .made) refl (do-halt (mapAt (c .program)) (laid .sound) s (x .1) (laid .stop)) refl l in
+      let r = runs.halts qs (x .1 .made) refl (do-halt (mapAt (c .program)) (laid .sound) s (x .1) (laid .stop)) refl l in
       record {
         halted = ap (λ (u : machine.State). u .machine .halted) (r .0);
         steps = r .1;
-        shown = rw (r .0) (shows (x .1) (machine.stopped (machineOf τ (suc (laid .last)))) refl);
+        shows = rw (r .0) (shows (x .1) (machine.stopped (machineOf τ (suc (laid .last)))) refl);
       }
 
-  -- budgets that the machine makes in full
-  goes : (τ : State) → Standing τ → (qs : List Request) (k : Clock) → budgetsOf qs s ≤ τ .steps → Fate (c .program) σ s qs k
-  goes τ h qs k l =
-      let r = runs.all-made qs k (h .at .made) refl l in
-      Fate.goes-on (λ f υ e. late f υ e (r .0) (decLt (υ .steps) (budgetsOf qs s))) (r .0) (r .1)
+  ends-of : ((f : ℕ) (τ : State) → Breaks τ (meaning f (c .program) σ) → ⊥) → (t : Total) → Comes s t → ListEnds (c .program) σ t
+  ends-of whole t k = pick (outcome (meaning (t .granted) (c .program) σ))
     where
-      late : (f : ℕ) (υ : State) → Ends υ (meaning f (c .program) σ) → runsDef qs s k .state .machine .halted ≡ false → Dec (υ .steps < budgetsOf qs s)
-          → budgetsOf qs s ≤ υ .steps
+      late : (f : ℕ) (υ : State) → Ends υ (meaning f (c .program) σ) → t .state .machine .halted ≡ false → Dec (υ .steps < t .granted) → t .granted ≤ υ .steps
       late f υ e running (yes b) =
-          let x = halts-at f υ e qs k b .halted in
+          let x = halts-at f υ e t k b .halted in
           absurd (let z : _≡_ {A = ℕ} 0 1 = cc in omega arith)
       late f υ e running (no n) = omega arith
 
-  fate-of : ((f : ℕ) (τ : State) → Breaks τ (meaning f (c .program) σ) → ⊥) → (qs : List Request) (k : Clock) → Fate (c .program) σ s qs k
-  fate-of whole qs k = pick (outcome (meaning (budgetsOf qs s) (c .program) σ))
-    where
-      ended-at : (τ : State) → Ends τ (meaning (budgetsOf qs s) (c .program) σ) → Dec (τ .steps < budgetsOf qs s) → Fate (c .program) σ s qs k
-      ended-at τ e (yes l) = let x = halts-at (budgetsOf qs s) τ e qs k l in Fate.halts (budgetsOf qs s) τ e l (x .halted) (x .steps) (x .shown)
-      ended-at τ e (no n) = goes τ (stands (mapAt (c .program)) (laid .sound) s (end-of (followed (budgetsOf qs s)) e .1)) qs k (omega arith)
+      goes : (τ : State) → Standing τ → t .granted ≤ τ .steps → ListEnds (c .program) σ t
+      goes τ h l = let r = all-made τ h t k l in ListEnds.goes-on (λ f υ e. late f υ e (r .running) (decLt (υ .steps) (t .granted))) r
 
-      pick : Outcome (meaning (budgetsOf qs s) (c .program) σ) → Fate (c .program) σ s qs k
-      pick (ends τ e) = ended-at τ e (decLt (τ .steps) (budgetsOf qs s))
-      pick (breaks τ e) = absurd (whole (budgetsOf qs s) τ e)
-      pick (runs-out τ e) = let x = out-of (followed (budgetsOf qs s)) e in goes τ (x .1) qs k (x .0)
+      ended-at : (τ : State) → Ends τ (meaning (t .granted) (c .program) σ) → Dec (τ .steps < t .granted) → ListEnds (c .program) σ t
+      ended-at τ e (yes l) = ListEnds.halts (t .granted) τ e l (halts-at (t .granted) τ e t k l)
+      ended-at τ e (no n) = goes τ (stands (mapAt (c .program)) (laid .sound) s (end-of (followed (t .granted)) e .1)) (omega arith)
 
-  result : Agrees (c .program) σ s
+      pick : Outcome (meaning (t .granted) (c .program) σ) → ListEnds (c .program) σ t
+      pick (ends τ e) = ended-at τ e (decLt (τ .steps) (t .granted))
+      pick (breaks τ e) = absurd (whole (t .granted) τ e)
+      pick (runs-out τ e) = let x = out-of (followed (t .granted)) e in goes τ (x .1) (x .0)
+
+  result : Agrees (c .program) σ (Comes s)
   result = record {
     steady = λ f g l. more-fuel f g l (c .program) σ;
     complete = λ f τ e. out-of (followed f) e .0;
     rising = λ f. subst (λ (n : ℕ). Rising n (meaning f (c .program) σ)) (loaded .start .begins) (rising-of (followed f));
     homes = homes;
-    observed = λ f m o qs k e. meets m (observed-of (followed f) o) qs k e;
-    broken = λ f τ o qs k e. meets τ (broken-of (followed f) o) qs k e;
-    fate = fate-of;
+    observed = λ f τ o. meets τ (observed-of (followed f) o);
+    broken = λ f τ b. meets τ (broken-of (followed f) b);
+    until-broken = λ f τ b. all-made τ (broken-of (followed f) b);
+    ends = ends-of;
   }
 
 pub agrees : (c : Compiled) → c .image ≡ imageOf (c .program) → WellFormed (c .program)
     → LaidProgram (mapAt (c .program)) (knownOf (c .program .declarations)) (c .program .main) (c .entry)
     → ((i : CellId) → List·Memᴰ i (variablesOf (c .program)) → Home (c .program) i)
-    → (σ : State) (s : machine.State) → Loaded c σ s → Agrees (c .program) σ s
+    → (σ : State) (s : machine.State) → Loaded c σ s → Agrees (c .program) σ (Comes s)
 agrees c is well laid homes σ s loaded = result c is well laid homes σ s loaded

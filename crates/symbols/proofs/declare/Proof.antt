@@ -78,9 +78,7 @@ same-length c = simp length-set
 
 returns : tie.Need-returns
 unfolding withRow stored
-returns c =
-    let d = c .data-of .ensures in
-    rw (d .coded, d .numbered, d .valued) (declared-room _ _ _ _ _ (omega arith))
+returns c = rw (c .data-of .ensures) (declared-room _ _ _ _ _ (omega arith))
 
 returns-2 : tie.Need-returns-2
 returns-2 c = declared-full _ _ _ _ _ (c .if1 .left)

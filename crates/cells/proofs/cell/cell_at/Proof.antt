@@ -1,8 +1,9 @@
--- `cell::cell_at` meets its contract. Assumes nothing.
-use mathlib.Core.Path.{sym, _∙_}
+use mathlib.Core.Path.{sym, ap, _∙_}
 use Rattle.syntax.specs.Cells.{parseCell}
-use Rattle.cells.proofs.Laws.{got-read, pass, then-got}
-use Rattle.cells.proofs.Names.{cell-by}
+use Rattle.symbols.specs.Trees.{treeOperand, treeCell}
+use Rattle.cells.specs.Answers.{answerOf}
+use Rattle.cells.proofs.Laws.{got-with, got-read, got-failed, then-got, then-failed, failed-answer}
+use Rattle.cells.proofs.Names.{cell-is}
 use borrow.Author.Needs.{needs}
 use Rattle.cells.proofs.cell.cell_at.Statement.{statement}
 use Rattle.cells.proofs.cell.cell_at.Tie as tie
@@ -10,8 +11,8 @@ use Rattle.cells.proofs.cell.cell_at.Tie as tie
 token-at-requires : tie.Need-token-at-requires
 token-at-requires c κs = search needs
 
-meaning-by-requires : tie.Need-meaning-by-requires
-meaning-by-requires c κs = search needs
+symbol-of-requires : tie.Need-symbol-of-requires
+symbol-of-requires c κs = search needs
 
 cell-start-of-requires : tie.Need-cell-start-of-requires
 cell-start-of-requires c κs = search needs
@@ -26,22 +27,29 @@ no-cell-requires : tie.Need-no-cell-requires
 no-cell-requires c κs = search needs
 
 returns : tie.Need-returns
-unfolding parseCell
-returns c = rw (cell-by _ _ _ (c .before .before .before .before .before .token-at .ensures) (c .before .before .before .before .meaning-by .result) (c .before .before .before .before .meaning-by .ensures)) (pass _ _ _ (c .before .before .before .cell-start-of .ensures) (c .before .enum-told .given .1))
+unfolding parseCell treeCell treeOperand
+returns c =
+    let start = c .before .before .before in
+    let e = start .before .before .token-at .ensures in
+    let q = c .before .enum-told .given .1 in
+    rw (← e, cell-is _ _ _, ← (start .before .symbol-of .ensures _ e), c .no-cell .ensures) (failed-answer _ (then-failed _ (got-failed _ (got-with _ (start .cell-start-of .ensures)) q)) q)
 
 cell-from-requires : tie.Need-cell-from-requires
 cell-from-requires c κs = search needs
 
 returns-2 : tie.Need-returns-2
 unfolding parseCell
-returns-2 c = rw (cell-by _ _ _ (c .before .before .before .before .before .before .token-at .ensures) (c .before .before .before .before .before .meaning-by .result) (c .before .before .before .before .before .meaning-by .ensures)) (c .cell-from .ensures ∙ sym (then-got _ (got-read (c .before .before .before .before .cell-start-of .ensures) (c .before .before .part .given .1))))
+returns-2 c =
+    let start = c .before .before .before .before in
+    let e = start .before .before .token-at .ensures in
+    rw (← e, cell-is _ _ _, ← (start .before .symbol-of .ensures _ e)) (c .cell-from .ensures ∙ ap (answerOf _) (sym (then-got _ (got-read (got-with _ (start .cell-start-of .ensures)) (c .before .before .part .given .1)))))
 
 pub cell-at-spec : {M : Type 1} → statement M
 cell-at-spec =
     tie.close
     (tie.spec
     token-at-requires
-    meaning-by-requires
+    symbol-of-requires
     cell-start-of-requires
     enum-known-part
     enum-told

@@ -1,9 +1,7 @@
--- `cell::cell_from` meets its contract. Assumes nothing.
 use Rattle.syntax.specs.Cells.{cellFrom}
-use Rattle.syntax.specs.Tree.{Cell}
-use Rattle.operands.specs.Trees.{treeCell}
-use Rattle.cells.specs.Answers.{gotWith, treeCellStart}
-use Rattle.cells.proofs.Laws.{pass, then-with}
+use Rattle.symbols.specs.Trees.{treeOperand, treeCell}
+use Rattle.cells.specs.Answers.{answerOf, treeCellStart}
+use Rattle.cells.proofs.Laws.{got-with, got-read, got-failed, then-got, then-failed, read-answer, failed-answer}
 use borrow.Author.Needs.{needs}
 use Rattle.cells.proofs.cell.cell_from.Statement.{statement}
 use Rattle.cells.proofs.cell.cell_from.Tie as tie
@@ -27,16 +25,20 @@ no-cell-requires : tie.Need-no-cell-requires
 no-cell-requires c κs = search needs
 
 returns : tie.Need-returns
-unfolding cellFrom treeCellStart
-returns c = rw (c .before .before .before .before .before .start2 .given .1) (pass _ _ _ (c .before .before .before .subscript-at .ensures) (c .before .enum-told2 .given .1))
+unfolding cellFrom treeCell treeOperand treeCellStart
+returns c =
+    let q = c .before .enum-told2 .given .1 in
+    rw (c .before .before .before .before .before .start2 .given .1, c .no-cell .ensures) (failed-answer _ (then-failed _ (got-failed _ (got-with _ (c .before .before .before .subscript-at .ensures)) q)) q)
 
 returns-2 : tie.Need-returns-2
-unfolding gotWith cellFrom treeCell treeCellStart
+unfolding answerOf cellFrom treeCell treeCellStart
 returns-2 c = rw (c .before .start .given .1)
 
 returns-3 : tie.Need-returns-3
 unfolding cellFrom treeCell treeCellStart
-returns-3 c = rw (c .before .before .before .before .start2 .given .1) (then-with _ _ (Cell.item _) (c .before .before .subscript-at .ensures))
+returns-3 c =
+    let q = c .enum-told .given .1 in
+    rw (c .before .before .before .before .start2 .given .1) (read-answer _ (then-got _ (got-read (got-with _ (c .before .before .subscript-at .ensures)) q)) q)
 
 pub cell-from-spec : {M : Type 1} → statement M
 cell-from-spec =

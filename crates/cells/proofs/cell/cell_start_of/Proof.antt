@@ -1,9 +1,8 @@
--- `cell::cell_start_of` meets its contract: an array's name, or an operand. Assumes nothing.
-use Rattle.syntax.specs.Cells.{CellStart}
 use Rattle.syntax.specs.Symbols.{asArray}
-use Rattle.cells.specs.Answers.{gotWith, treeSymbol, treeCellStart}
+use Rattle.symbols.specs.Trees.{treeOperand, treeSymbol}
+use Rattle.cells.specs.Answers.{answerOf, treeCellStart}
 use Rattle.cells.specs.Starts.{cellBy}
-use Rattle.cells.proofs.Laws.{pass, then-with}
+use Rattle.cells.proofs.Laws.{got-with, got-read, got-failed, then-got, then-failed, read-answer, failed-answer}
 use Rattle.cells.proofs.Names.{no-array}
 use borrow.Author.Needs.{needs}
 use Rattle.cells.proofs.cell.cell_start_of.Statement.{statement}
@@ -25,15 +24,19 @@ no-operand-requires : tie.Need-no-operand-requires
 no-operand-requires c κs = search needs
 
 returns : tie.Need-returns
-unfolding cellBy
-returns c = rw (no-array _ (c .before .before .before .before .match .keys2)) (pass _ _ _ (c .before .before .before .operand-of .ensures) (c .before .enum-told2 .given .1))
+unfolding cellBy treeCellStart treeOperand
+returns c =
+    let q = c .before .enum-told2 .given .1 in
+    rw (no-array _ (c .before .before .before .before .match .keys2), c .no-operand .ensures) (failed-answer _ (then-failed _ (got-failed _ (got-with _ (c .before .before .before .operand-of .ensures)) q)) q)
 
 returns-2 : tie.Need-returns-2
 unfolding cellBy treeCellStart
-returns-2 c = rw (no-array _ (c .before .before .before .match .keys2)) (then-with _ _ CellStart.operand (c .before .before .operand-of .ensures))
+returns-2 c =
+    let q = c .enum-told .given .1 in
+    rw (no-array _ (c .before .before .before .match .keys2)) (read-answer _ (then-got _ (got-read (got-with _ (c .before .before .operand-of .ensures)) q)) q)
 
 returns-3 : tie.Need-returns-3
-unfolding gotWith cellBy asArray treeSymbol treeCellStart
+unfolding answerOf cellBy asArray treeSymbol treeCellStart
 returns-3 c = rw (c .before .symbol .given .1)
 
 pub cell-start-of-spec : {M : Type 1} → statement M

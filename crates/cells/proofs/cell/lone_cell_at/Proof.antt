@@ -1,9 +1,9 @@
--- `cell::lone_cell_at` meets its contract. Assumes nothing.
+use mathlib.Core.Path.{_∙_}
 use borrow.Author.Tests.{eq-eqb, ne-eqb}
 use Rattle.syntax.specs.Cells.{parseLoneCell}
-use Rattle.syntax.specs.Parse.{andThen, failAt}
-use Rattle.cells.specs.Answers.{gotWith}
-use Rattle.cells.proofs.Laws.{got-read, pass}
+use Rattle.syntax.specs.Parse.{failAt}
+use Rattle.symbols.specs.Trees.{treeOperand, treeCell}
+use Rattle.cells.proofs.Laws.{got-with, got-read, then-got, pass-answer, read-answer, failed-answer}
 use borrow.Author.Needs.{needs}
 use Rattle.cells.proofs.cell.lone_cell_at.Statement.{statement}
 use Rattle.cells.proofs.cell.lone_cell_at.Tie as tie
@@ -19,7 +19,7 @@ enum-told c = search needs
 
 returns : tie.Need-returns
 unfolding parseLoneCell
-returns c = pass _ _ _ (c .before .before .cell-at .ensures) (c .enum-told .given .1)
+returns c = pass-answer _ _ _ (c .before .before .cell-at .ensures) (c .enum-told .given .1)
 
 operator-at-requires : tie.Need-operator-at-requires
 operator-at-requires c κs = search needs
@@ -31,12 +31,18 @@ no-cell-requires : tie.Need-no-cell-requires
 no-cell-requires c κs = search needs
 
 returns-2 : tie.Need-returns-2
-unfolding parseLoneCell andThen failAt gotWith
-returns-2 c = rw (got-read (c .before .before .before .before .before .before .before .before .cell-at .ensures) (c .before .before .before .before .before .before .part .given .1), ← (c .before .before .before .before .operator-at .ensures), eq-eqb _ _ (c .before .before .if1 .taken), c .before .fail-at .ensures)
+unfolding parseLoneCell failAt treeCell treeOperand
+returns-2 c =
+    let after = c .before .before .before .before in
+    let read = after .before .before in
+    rw (c .no-cell .ensures) (failed-answer _ (then-got _ (got-read (got-with _ (read .before .before .cell-at .ensures)) (read .part .given .1)) ∙ rw (← (after .operator-at .ensures), eq-eqb _ _ (c .before .before .if1 .taken))) (c .before .fail-at .ensures))
 
 returns-3 : tie.Need-returns-3
-unfolding parseLoneCell andThen failAt gotWith
-returns-3 c = rw (got-read (c .before .before .before .before .before .before .cell-at .ensures) (c .before .before .before .before .part .given .1), ← (c .before .before .operator-at .ensures), ne-eqb _ _ (c .if1 .left), c .before .before .before .before .part .given .1)
+unfolding parseLoneCell
+returns-3 c =
+    let after = c .before .before in
+    let read = after .before .before in
+    read-answer _ (then-got _ (got-read (got-with _ (read .before .before .cell-at .ensures)) (read .part .given .1)) ∙ rw (← (after .operator-at .ensures), ne-eqb _ _ (c .if1 .left))) (read .part .given .1)
 
 pub lone-cell-at-spec : {M : Type 1} → statement M
 lone-cell-at-spec =

@@ -1,7 +1,6 @@
--- `cell::operand_of` meets its contract: each arm computes. Assumes nothing.
 use Rattle.syntax.specs.Symbols.{asOperand}
-use Rattle.operands.specs.Trees.{treeOperand}
-use Rattle.cells.specs.Answers.{gotWith, treeSymbol}
+use Rattle.symbols.specs.Trees.{treeOperand, treeSymbol}
+use Rattle.cells.specs.Answers.{answerOf}
 use Rattle.cells.specs.Starts.{operandBy}
 use Rattle.cells.proofs.Laws.{refused-with}
 use Rattle.cells.proofs.Names.{no-operand}
@@ -25,20 +24,20 @@ no-operand-requires : tie.Need-no-operand-requires
 no-operand-requires c κs = search needs
 
 returns : tie.Need-returns
-unfolding gotWith operandBy asOperand treeOperand treeSymbol
+unfolding answerOf operandBy asOperand treeOperand treeSymbol
 returns c = rw (c .before .symbol .given .1)
 
 returns-2 : tie.Need-returns-2
-unfolding gotWith operandBy asOperand treeOperand treeSymbol
+unfolding answerOf operandBy asOperand treeOperand treeSymbol
 returns-2 c = rw (c .before .symbol2 .given .1)
 
 returns-3 : tie.Need-returns-3
-unfolding gotWith operandBy asOperand treeOperand treeSymbol
+unfolding answerOf operandBy asOperand treeOperand treeSymbol
 returns-3 c = rw (c .before .symbol3 .given .1)
 
 returns-4 : tie.Need-returns-4
-unfolding operandBy
-returns-4 c = rw (no-operand _ (c .before .before .match .keys4)) (refused-with _ _ (c .before .refused .ensures))
+unfolding operandBy treeOperand
+returns-4 c = rw (no-operand _ (c .before .before .match .keys4), c .no-operand .ensures) (refused-with _ _ (c .before .refused .ensures))
 
 pub operand-of-spec : {M : Type 1} → statement M
 operand-of-spec =

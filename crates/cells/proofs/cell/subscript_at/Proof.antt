@@ -1,7 +1,9 @@
--- `cell::subscript_at` meets its contract: a failure is passed upward, or what comes next decides. Assumes nothing.
+-- A failure is passed upward, or what comes next decides. Assumes nothing.
+use mathlib.Core.Path.{sym, ap, _∙_}
 use Rattle.syntax.specs.Cells.{parseSubscript}
-use Rattle.syntax.specs.Parse.{andThen}
-use Rattle.cells.proofs.Laws.{got-read, part-read, pass, pass-part, then-part}
+use Rattle.symbols.specs.Trees.{treeSubscript}
+use Rattle.cells.specs.Answers.{answerOf}
+use Rattle.cells.proofs.Laws.{got-with, got-read, part-read, part-failed, then-got, then-failed, pass-answer, read-answer, failed-answer}
 use borrow.Author.Needs.{needs}
 use Rattle.cells.proofs.cell.subscript_at.Statement.{statement}
 use Rattle.cells.proofs.cell.subscript_at.Tie as tie
@@ -16,8 +18,10 @@ enum-told : tie.Need-enum-told
 enum-told c = search needs
 
 returns : tie.Need-returns
-unfolding parseSubscript
-returns c = pass-part _ _ _ (c .before .before .expect .ensures) (c .enum-told .given .1)
+unfolding parseSubscript treeSubscript
+returns c =
+    let q = c .enum-told .given .1 in
+    failed-answer _ (then-failed _ (part-failed _ (c .before .before .expect .ensures) q)) q
 
 inner-subscript-at-requires : tie.Need-inner-subscript-at-requires
 inner-subscript-at-requires c κs = search needs
@@ -29,15 +33,35 @@ enum-told-2 : tie.Need-enum-told-2
 enum-told-2 c = search needs
 
 returns-2 : tie.Need-returns-2
-unfolding parseSubscript andThen
-returns-2 c = rw (part-read _ (c .before .before .before .before .before .before .expect .ensures) (c .before .before .before .before .part .given .1) .is) (pass _ _ _ (c .before .before .inner-subscript-at .ensures) (c .enum-told2 .given .1))
+unfolding parseSubscript
+returns-2 c =
+    let left = c .before .before .before .before in
+    pass-answer _ _ _ (c .before .before .inner-subscript-at .ensures) (c .enum-told2 .given .1) ∙ ap (answerOf _) (sym (then-got _ (part-read _ (left .before .before .expect .ensures) (left .part .given .1) .is)))
 
 expect-requires-2 : tie.Need-expect-requires-2
 expect-requires-2 c κs = search needs
 
+enum-told-3 : tie.Need-enum-told-3
+enum-told-3 c = search needs
+
+enum-told-4 : tie.Need-enum-told-4
+enum-told-4 c = search needs
+
 returns-3 : tie.Need-returns-3
-unfolding parseSubscript andThen
-returns-3 c = rw (part-read _ (c .before .before .before .before .before .before .before .before .expect .ensures) (c .before .before .before .before .before .before .part .given .1) .is, got-read (c .before .before .before .before .inner-subscript-at .ensures) (c .before .before .part2 .given .1)) (then-part _ _ (c .expect2 .ensures))
+unfolding parseSubscript treeSubscript
+returns-3 c =
+    let inner = c .before .before .before .before in
+    let left = inner .before .before .before .before in
+    let q = c .enum-told4 .given .1 in
+    failed-answer _ (then-got _ (part-read _ (left .before .before .expect .ensures) (left .part .given .1) .is) ∙ then-got _ (got-read (got-with _ (inner .before .before .inner-subscript-at .ensures)) (inner .part2 .given .1)) ∙ then-failed _ (part-failed _ (c .before .before .expect2 .ensures) q)) q
+
+returns-4 : tie.Need-returns-4
+unfolding parseSubscript
+returns-4 c =
+    let inner = c .before .before .before .before in
+    let left = inner .before .before .before .before in
+    let q = c .enum-told3 .given .1 in
+    read-answer _ (then-got _ (part-read _ (left .before .before .expect .ensures) (left .part .given .1) .is) ∙ then-got _ (got-read (got-with _ (inner .before .before .inner-subscript-at .ensures)) (inner .part2 .given .1)) ∙ then-got _ (part-read _ (c .before .before .expect2 .ensures) q .is)) q
 
 pub subscript-at-spec : {M : Type 1} → statement M
 subscript-at-spec =
@@ -52,4 +76,7 @@ subscript-at-spec =
     enum-told-2
     returns-2
     expect-requires-2
-    returns-3)
+    enum-told-3
+    enum-told-4
+    returns-3
+    returns-4)

@@ -1,9 +1,10 @@
--- `openings::named_term_of` meets its contract: a procedure that is no accumulator procedure goes the way of any other symbol. Assumes nothing.
+-- A procedure that is no accumulator procedure goes the way of any other symbol. Assumes nothing.
 use mathlib.Core.Path.{_≡_, sym, _∙_}
 use mathlib.Core.Logic.{⊎-elim}
 use mathlib.Core.Option.{none}
 use Rattle.syntax.specs.Symbols.{asFunction}
-use Rattle.cells.specs.Answers.{gotWith, treeSymbol, treeTermStart}
+use Rattle.symbols.specs.Trees.{treeSymbol}
+use Rattle.cells.specs.Answers.{answerOf, treeTermStart}
 use Rattle.cells.specs.Starts.{termBy}
 use Rattle.cells.proofs.Names.{no-function}
 use borrow.Author.Needs.{needs}
@@ -14,7 +15,7 @@ enum-known-symbol : tie.Need-enum-known-symbol
 enum-known-symbol c = search needs
 
 returns : tie.Need-returns
-unfolding gotWith termBy asFunction treeSymbol treeTermStart
+unfolding answerOf termBy asFunction treeSymbol treeTermStart
 returns c = rw (c .before .before .symbol .given .1, c .if1 .taken)
 
 cell-term-of-requires : tie.Need-cell-term-of-requires

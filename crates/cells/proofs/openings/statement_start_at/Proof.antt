@@ -1,7 +1,8 @@
--- `openings::statement_start_at` meets its contract: by the symbol at the token. Assumes nothing.
+use mathlib.Core.Path.{sym, ap, _∙_}
 use Rattle.syntax.specs.Symbols.{asInteger, asArray, asProcedure}
-use Rattle.cells.specs.Answers.{gotWith, treeSymbol, treeStatementStart}
-use Rattle.cells.proofs.Names.{statement-by, no-start}
+use Rattle.symbols.specs.Trees.{treeSymbol}
+use Rattle.cells.specs.Answers.{answerOf, treeStatementStart}
+use Rattle.cells.proofs.Names.{statement-is, no-start}
 use borrow.Author.Needs.{needs}
 use Rattle.cells.proofs.openings.statement_start_at.Statement.{statement}
 use Rattle.cells.proofs.openings.statement_start_at.Tie as tie
@@ -9,8 +10,8 @@ use Rattle.cells.proofs.openings.statement_start_at.Tie as tie
 token-at-requires : tie.Need-token-at-requires
 token-at-requires c κs = search needs
 
-symbol-by-requires : tie.Need-symbol-by-requires
-symbol-by-requires c κs = search needs
+symbol-of-requires : tie.Need-symbol-of-requires
+symbol-of-requires c κs = search needs
 
 enum-known-symbol : tie.Need-enum-known-symbol
 enum-known-symbol c = search needs
@@ -25,28 +26,38 @@ opening-of-requires : tie.Need-opening-of-requires
 opening-of-requires c κs = search needs
 
 returns : tie.Need-returns
-unfolding gotWith asInteger asArray asProcedure treeSymbol treeStatementStart
-returns c = rw (statement-by _ _ _ (c .before .before .before .before .token-at .ensures) (c .before .before .before .symbol-by .result) (c .before .before .before .symbol-by .ensures), c .before .symbol .given .1)
+unfolding answerOf asInteger asArray asProcedure treeSymbol treeStatementStart
+returns c =
+    let symbol = c .before .before .before in
+    let e = symbol .before .token-at .ensures in
+    rw (← e, statement-is _ _ _, ← (symbol .symbol-of .ensures _ e), c .before .symbol .given .1)
 
 returns-2 : tie.Need-returns-2
-unfolding gotWith asInteger asArray asProcedure treeSymbol treeStatementStart
-returns-2 c = rw (statement-by _ _ _ (c .before .before .before .before .token-at .ensures) (c .before .before .before .symbol-by .result) (c .before .before .before .symbol-by .ensures), c .before .symbol2 .given .1)
+unfolding answerOf asInteger asArray asProcedure treeSymbol treeStatementStart
+returns-2 c =
+    let symbol = c .before .before .before in
+    let e = symbol .before .token-at .ensures in
+    rw (← e, statement-is _ _ _, ← (symbol .symbol-of .ensures _ e), c .before .symbol2 .given .1)
 
 returns-3 : tie.Need-returns-3
-unfolding gotWith asInteger asArray asProcedure treeSymbol treeStatementStart
-returns-3 c = rw (statement-by _ _ _ (c .before .before .before .before .token-at .ensures) (c .before .before .before .symbol-by .result) (c .before .before .before .symbol-by .ensures), c .before .symbol3 .given .1)
+unfolding answerOf asInteger asArray asProcedure treeSymbol treeStatementStart
+returns-3 c =
+    let symbol = c .before .before .before in
+    let e = symbol .before .token-at .ensures in
+    rw (← e, statement-is _ _ _, ← (symbol .symbol-of .ensures _ e), c .before .symbol3 .given .1)
 
 returns-4 : tie.Need-returns-4
 returns-4 c =
-    let n = no-start (c .before .before .symbol-by .result) (c .before .match .keys4) in
-    rw (statement-by _ _ _ (c .before .before .before .token-at .ensures) (c .before .before .symbol-by .result) (c .before .before .symbol-by .ensures), n .integer, n .array, n .procedure) (c .opening-of .ensures)
+    let symbol = c .before .before in
+    let e = symbol .before .token-at .ensures in
+    rw (← e, statement-is _ _ _, ← (symbol .symbol-of .ensures _ e)) (c .opening-of .ensures ∙ ap (answerOf _) (sym (no-start _ (c .before .match .keys4) _ _ _ _)))
 
 pub statement-start-at-spec : {M : Type 1} → statement M
 statement-start-at-spec =
     tie.close
     (tie.spec
     token-at-requires
-    symbol-by-requires
+    symbol-of-requires
     enum-known-symbol
     enum-known-symbol-2
     enum-known-symbol-3

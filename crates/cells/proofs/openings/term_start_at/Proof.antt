@@ -1,9 +1,7 @@
--- `openings::term_start_at` meets its contract: each arm computes. Assumes nothing.
-use mathlib.Core.Path.{sym, _∙_}
 use borrow.Author.Tests.{ne-eqb}
 use Rattle.syntax.specs.Expressions.{termStart}
-use Rattle.cells.specs.Answers.{gotWith, treeTermStart}
-use Rattle.cells.proofs.Names.{term-by}
+use Rattle.cells.specs.Answers.{answerOf, treeTermStart}
+use Rattle.cells.proofs.Names.{term-is}
 use borrow.Author.Needs.{needs}
 use Rattle.cells.proofs.openings.term_start_at.Statement.{statement}
 use Rattle.cells.proofs.openings.term_start_at.Tie as tie
@@ -11,22 +9,22 @@ use Rattle.cells.proofs.openings.term_start_at.Tie as tie
 token-at-requires : tie.Need-token-at-requires
 token-at-requires c κs = search needs
 
-meaning-by-requires : tie.Need-meaning-by-requires
-meaning-by-requires c κs = search needs
+symbol-of-requires : tie.Need-symbol-of-requires
+symbol-of-requires c κs = search needs
 
 named-term-of-requires : tie.Need-named-term-of-requires
 named-term-of-requires c κs = search needs
 
 returns : tie.Need-returns
-unfolding termStart gotWith treeTermStart
+unfolding termStart answerOf treeTermStart
 returns c = rw (← (c .before .token-at .ensures), c .match .keys1)
 
 returns-2 : tie.Need-returns-2
-unfolding termStart gotWith treeTermStart
+unfolding termStart answerOf treeTermStart
 returns-2 c = rw (← (c .before .token-at .ensures), c .match .keys2)
 
 returns-3 : tie.Need-returns-3
-unfolding termStart gotWith treeTermStart
+unfolding termStart answerOf treeTermStart
 returns-3 c = rw (← (c .before .token-at .ensures), c .match .keys3)
 
 returns-4 : tie.Need-returns-4
@@ -34,14 +32,14 @@ unfolding termStart
 returns-4 c =
     let e = c .before .before .before .token-at .ensures in
     let n = c .before .before .match .rest in
-    rw (← e, ne-eqb _ _ (n .0 .0 .1), ne-eqb _ _ (n .0 .1), ne-eqb _ _ (n .1)) (rw (← e) at (c .named-term-of .ensures ∙ sym (term-by _ _ _ e _ (c .before .meaning-by .ensures))))
+    rw (← e, ne-eqb _ _ (n .0 .0 .1), ne-eqb _ _ (n .0 .1), ne-eqb _ _ (n .1), term-is _ _ _, ← (c .before .symbol-of .ensures _ e)) (c .named-term-of .ensures)
 
 pub term-start-at-spec : {M : Type 1} → statement M
 term-start-at-spec =
     tie.close
     (tie.spec
     token-at-requires
-    meaning-by-requires
+    symbol-of-requires
     named-term-of-requires
     returns
     returns-2

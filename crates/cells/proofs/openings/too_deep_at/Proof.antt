@@ -1,7 +1,8 @@
--- `openings::too_deep_at` meets its contract: by the token's kind: `.IF`, a unary word, or neither. Assumes nothing.
-use Rattle.syntax.specs.Tree.{Expr}
-use Rattle.cells.proofs.Laws.{got-read, pass-on, then-got, failed-part}
-use mathlib.Core.Path.{_∙_}
+-- By the token's kind: `.IF`, a unary word, or neither. Assumes nothing.
+use Rattle.syntax.specs.Parse.{failAt}
+use Rattle.cells.proofs.Laws.{got-with, got-read, got-failed, then-got, then-failed}
+use mathlib.Core.Path.{sym, ap, _∙_}
+use Rattle.cells.specs.Answers.{partOf}
 use mathlib.Core.Logic.{⊎-elim}
 use mathlib.Core.Logic.{inl, inr}
 use Rattle.cells.proofs.Starts.{deep-if, deep-unary, deep-term}
@@ -28,31 +29,36 @@ enum-told-2 : tie.Need-enum-told-2
 enum-told-2 c = search needs
 
 returns : tie.Need-returns
+unfolding partOf
 returns c =
     let t = c .before .before .before .before .before .token-at .result in
     let e = c .before .before .before .before .before .token-at .ensures in
-    rw (← e, deep-term _ _ t (c .before .before .before .before .match .rest .1) (⊎-elim (λ w. inl (w .taken)) (λ w. inr (w .1 .left)) (c .before .before .before .if1 .came))) (pass-on _ _ (rw (← e) at (c .before .before .term-start-at .ensures)) (c .enum-told2 .given .1))
+    let q = c .enum-told2 .given .1 in
+    rw (← e, deep-term _ _ t (c .before .before .before .before .match .rest .1) (⊎-elim (λ w. inl (w .taken)) (λ w. inr (w .1 .left)) (c .before .before .before .if1 .came))) (q ∙ sym (ap partOf (then-failed _ (got-failed _ (got-with _ (rw (← e) at (c .before .before .term-start-at .ensures))) q))))
 
 fail-at-requires-3 : tie.Need-fail-at-requires-3
 fail-at-requires-3 c κs = search needs
 
 returns-2 : tie.Need-returns-2
+unfolding failAt partOf
 returns-2 c =
     let t = c .before .before .token-at .result in
     let e = c .before .before .token-at .ensures in
-    rw (← e, deep-if _ _ t (c .before .match .keys1)) (c .fail-at .ensures ∙ failed-part Expr t 9)
+    rw (← e, deep-if _ _ t (c .before .match .keys1)) (c .fail-at .ensures)
 
 returns-3 : tie.Need-returns-3
+unfolding failAt partOf
 returns-3 c =
     let t = c .before .before .before .before .token-at .result in
     let e = c .before .before .before .before .token-at .ensures in
-    rw (← e, deep-unary _ _ t (c .before .before .before .match .rest .1) (c .before .before .if1 .left) (c .before .if2 .taken)) (c .fail-at2 .ensures ∙ failed-part Expr t 9)
+    rw (← e, deep-unary _ _ t (c .before .before .before .match .rest .1) (c .before .before .if1 .left) (c .before .if2 .taken)) (c .fail-at2 .ensures)
 
 returns-4 : tie.Need-returns-4
+unfolding failAt partOf
 returns-4 c =
     let t = c .before .before .before .before .before .before .token-at .result in
     let e = c .before .before .before .before .before .before .token-at .ensures in
-    rw (← e, deep-term _ _ t (c .before .before .before .before .before .match .rest .1) (⊎-elim (λ w. inl (w .taken)) (λ w. inr (w .1 .left)) (c .before .before .before .before .if1 .came)), then-got _ (got-read (rw (← e) at (c .before .before .before .term-start-at .ensures)) (c .before .enum-told .given .1))) (c .fail-at3 .ensures ∙ failed-part Expr t 9)
+    rw (← e, deep-term _ _ t (c .before .before .before .before .before .match .rest .1) (⊎-elim (λ w. inl (w .taken)) (λ w. inr (w .1 .left)) (c .before .before .before .before .if1 .came)), then-got _ (got-read (got-with _ (rw (← e) at (c .before .before .before .term-start-at .ensures))) (c .before .enum-told .given .1))) (c .fail-at3 .ensures)
 
 pub too-deep-at-spec : {M : Type 1} → statement M
 too-deep-at-spec =

@@ -1,9 +1,11 @@
 -- `arrays::array` meets its contract. Assumes nothing.
 use native.Mathlib.Omega.{arith}
-use Rattle.declarations.specs.Reads.{Reads}
+use Rattle.declarations.proofs.Reading.{gives-read}
+use Rattle.cells.specs.Reads.Reads.{read, fails}
+use Rattle.symbols.specs.Trees.{treeSymbol}
 use Rattle.declarations.specs.States.{stateOf}
 use Rattle.declarations.proofs.Naming.{held-length}
-use Rattle.declarations.proofs.Reading.{with-read, with-failed, came, failed-as}
+use Rattle.cells.proofs.Reading.{came, failed-as}
 use Rattle.declarations.proofs.Arraying.{head-room, array-head, array-values, array-on, array-declared}
 use borrow.Author.Needs.{needs}
 use Rattle.declarations.proofs.arrays.array.Statement.{statement}
@@ -22,7 +24,7 @@ same-length : tie.Need-same-length
 same-length c = search needs
 
 returns : tie.Need-returns
-returns c = Reads.fails (array-head _ _ _ (with-failed _ (c .before .before .array-head .ensures) (c .enum-told .given .1))) (c .enum-told .given .1)
+returns c = fails (array-head _ _ _ (failed-as (c .before .before .array-head .ensures) (c .enum-told .given .1))) (c .enum-told .given .1) tt
 
 add-store-global : tie.Need-add-store-global
 add-store-global c = let h = c .before .before .before .before .before .before .before .before .before .before .pre .0 in omega (arith, h .top)
@@ -32,7 +34,7 @@ store-global-requires c κs = search needs
 
 sub-first : tie.Need-sub-first
 sub-first c =
-    let head = with-read (c .before .before .before .before .before .before .before .before .array-head .ensures) (c .before .before .before .before .before .before .part .given .1) in
+    let head = gives-read (c .before .before .before .before .before .before .before .before .array-head .ensures) (c .before .before .before .before .before .before .part .given .1) in
     let room = head-room (c .before .before .before .before .before .before .before .before .before .before .before .before .before .args .source .now) (stateOf (c .before .before .before .before .before .before .before .before .before .before .before .before .before .args .state) (c .before .before .before .before .before .before .before .before .before .before .before .before .before .args .table .now)) (c .before .before .before .before .before .before .before .before .before .before .before .before .before .args .at) head in
     omega (arith, room .space)
 
@@ -41,7 +43,7 @@ cast-initials c = search needs
 
 initials-requires : tie.Need-initials-requires
 initials-requires c κs =
-    let head = with-read (c .before .before .before .before .before .before .before .before .before .before .array-head .ensures) (c .before .before .before .before .before .before .before .before .part .given .1) in
+    let head = gives-read (c .before .before .before .before .before .before .before .before .before .before .array-head .ensures) (c .before .before .before .before .before .before .before .before .part .given .1) in
     let room = head-room (c .before .before .before .before .before .before .before .before .before .before .before .before .before .before .before .args .source .now) (stateOf (c .before .before .before .before .before .before .before .before .before .before .before .before .before .before .before .args .state) (c .before .before .before .before .before .before .before .before .before .before .before .before .before .before .before .args .table .now)) (c .before .before .before .before .before .before .before .before .before .before .before .before .before .before .before .args .at) head in
     let h = c .before .before .before .before .before .before .before .before .before .before .before .before .before .before .before .pre .0 in
     omega (arith, room .space, h .top)
@@ -60,8 +62,8 @@ same-length-3 c = search needs
 
 returns-2 : tie.Need-returns-2
 returns-2 c =
-    let head = with-read (c .before .before .before .before .before .before .before .before .before .before .before .before .before .before .before .array-head .ensures) (c .before .before .before .before .before .before .before .before .before .before .before .before .before .part .given .1) in
-    Reads.fails (array-values _ _ _ head (failed-as (c .before .before .before .before .initials .ensures) (c .enum-told3 .given .1))) (c .enum-told3 .given .1)
+    let head = gives-read (c .before .before .before .before .before .before .before .before .before .before .before .before .before .before .before .array-head .ensures) (c .before .before .before .before .before .before .before .before .before .before .before .before .before .part .given .1) in
+    fails (array-values _ _ _ head (failed-as (c .before .before .before .before .initials .ensures) (c .enum-told3 .given .1))) (c .enum-told3 .given .1) tt
 
 declare-global-requires : tie.Need-declare-global-requires
 declare-global-requires c κs = let h = c .before .before .before .before .before .before .before .before .before .before .before .before .before .before .before .before .before .before .before .before .before .pre .0 in (h .few, h .each)
@@ -73,14 +75,15 @@ same-length-5 : tie.Need-same-length-5
 same-length-5 c = search needs
 
 returns-3 : tie.Need-returns-3
+unfolding treeSymbol
 returns-3 c =
-    let head = with-read (c .before .before .before .before .before .before .before .before .before .before .before .before .before .before .before .before .before .before .before .array-head .ensures) (c .before .before .before .before .before .before .before .before .before .before .before .before .before .before .before .before .before .part .given .1) in
+    let head = gives-read (c .before .before .before .before .before .before .before .before .before .before .before .before .before .before .before .before .before .before .before .array-head .ensures) (c .before .before .before .before .before .before .before .before .before .before .before .before .before .before .before .before .before .part .given .1) in
     let room = head-room (c .before .before .before .before .before .before .before .before .before .before .before .before .before .before .before .before .before .before .before .before .before .before .before .before .args .source .now) (stateOf (c .before .before .before .before .before .before .before .before .before .before .before .before .before .before .before .before .before .before .before .before .before .before .before .before .args .state) (c .before .before .before .before .before .before .before .before .before .before .before .before .before .before .before .before .before .before .before .before .before .before .before .before .args .table .now)) (c .before .before .before .before .before .before .before .before .before .before .before .before .before .before .before .before .before .before .before .before .before .before .before .before .args .at) head in
     let h = c .before .before .before .before .before .before .before .before .before .before .before .before .before .before .before .before .before .before .before .before .before .before .before .before .pre .0 in
     let r = came (c .before .before .before .before .before .before .before .before .initials .ensures) (c .before .before .before .before .enum-told2 .given .1) in
     let held = held-length (c .before .before .before .before .before .before .before .before .before .before .before .before .before .before .before .before .before .before .before .before .before .before .before .before .args .state .names) (c .before .before .before .before .before .before .before .before .before .before .before .before .before .before .before .before .before .before .before .before .before .before .before .before .args .table .now) (let l = c .before .before .before .before .before .before .before .before .before .before .before .before .before .before .before .before .before .before .before .before .before .before .before .before .pre .1 in omega (arith, h .few, l)) in
-    Reads.read (array-on _ _ _ head (r .parsed)) (c .before .before .before .before .enum-told2 .given .1)
-    (rw (c .before .before .declare-global .ensures .1) (array-declared _ _ _ _ _ _ _ _ _ h (c .before .before .before .before .before .before .before .before .before .before .before .before .before .before .before .before .before .before .before .before .before .before .before .before .pre .1) room held (c .before .before .declare-global .kept .0) (c .before .before .declare-global .ensures .0) (c .before .before .before .before .before .before .before .before .before .before .before .before .before .store-global .ensures) (r .does)))
+    read (array-on _ _ _ head (r .is)) (c .before .before .before .before .enum-told2 .given .1)
+    (rw (c .before .before .declare-global .ensures .1) (array-declared _ _ _ _ _ _ _ _ _ h (c .before .before .before .before .before .before .before .before .before .before .before .before .before .before .before .before .before .before .before .before .before .before .before .before .pre .1) room held (c .before .before .declare-global .kept .0) (c .before .before .declare-global .ensures .0) (c .before .before .before .before .before .before .before .before .before .before .before .before .before .store-global .ensures) (r .holds)))
 
 pub array-spec : {M : Type 1} → statement M
 array-spec =

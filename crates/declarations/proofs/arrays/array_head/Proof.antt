@@ -1,7 +1,9 @@
 -- `arrays::array_head` meets its contract. Assumes nothing.
 use native.Mathlib.Omega.{arith}
+use Rattle.cells.specs.Reads.Reads.{fails}
+use Rattle.cells.proofs.Reading.{failed-as}
 use Rattle.declarations.proofs.Arraying.{head-name, head-size, head-closing}
-use Rattle.declarations.proofs.Reading.{with-read, with-failed, failed-with}
+use Rattle.declarations.proofs.Reading.{gives, gives-read}
 use borrow.Author.Needs.{needs}
 use Rattle.declarations.proofs.arrays.array_head.Statement.{statement}
 use Rattle.declarations.proofs.arrays.array_head.Tie as tie
@@ -16,7 +18,7 @@ enum-told : tie.Need-enum-told
 enum-told c = search needs
 
 returns : tie.Need-returns
-returns c = failed-with _ (c .enum-told .given .1) (head-name _ _ _ (with-failed _ (c .before .before .before .global-name .ensures) (c .enum-told .given .1)))
+returns c = fails (head-name _ _ _ (failed-as (c .before .before .before .global-name .ensures) (c .enum-told .given .1))) (c .enum-told .given .1) tt
 
 bracketed-requires : tie.Need-bracketed-requires
 bracketed-requires c κs = search needs
@@ -28,7 +30,7 @@ enum-told-2 : tie.Need-enum-told-2
 enum-told-2 c = search needs
 
 returns-2 : tie.Need-returns-2
-returns-2 c = failed-with _ (c .enum-told2 .given .1) (head-size _ _ _ (with-read (c .before .before .before .before .before .before .before .global-name .ensures) (c .before .before .before .before .part .given .1)) (with-failed _ (c .before .before .bracketed .ensures) (c .enum-told2 .given .1)))
+returns-2 c = fails (head-size _ _ _ (gives-read (c .before .before .before .before .before .before .before .global-name .ensures) (c .before .before .before .before .part .given .1)) (failed-as (c .before .before .bracketed .ensures) (c .enum-told2 .given .1))) (c .enum-told2 .given .1) tt
 
 size-of-requires : tie.Need-size-of-requires
 size-of-requires c κs = search needs
@@ -37,7 +39,7 @@ closing-requires : tie.Need-closing-requires
 closing-requires c κs = search needs
 
 returns-3 : tie.Need-returns-3
-returns-3 c = head-closing _ _ _ (with-read (c .before .before .before .before .before .before .before .before .before .before .before .global-name .ensures) (c .before .before .before .before .before .before .before .before .part .given .1)) _ _ _ _ (c .before .before .size-of .ensures) (with-read (c .before .before .before .before .before .before .bracketed .ensures) (c .before .before .before .before .part2 .given .1)) (c .closing .ensures)
+returns-3 c = gives _ (head-closing _ _ _ (gives-read (c .before .before .before .before .before .before .before .before .before .before .before .global-name .ensures) (c .before .before .before .before .before .before .before .before .part .given .1)) _ _ _ _ (c .before .before .size-of .ensures) (gives-read (c .before .before .before .before .before .before .bracketed .ensures) (c .before .before .before .before .part2 .given .1)) (c .closing .ensures))
 
 pub array-head-spec : {M : Type 1} → statement M
 array-head-spec =

@@ -7,7 +7,7 @@ use Rattle.source.specs.Kinds
 use Rattle.syntax.specs.Parse.{parted}
 use Rattle.declarations.specs.States.{stateOf, Anyhow}
 use Rattle.declarations.specs.Forms.{arrayIn}
-use Rattle.declarations.proofs.Reading.{Listing, list-first, list-failed, list-zero, list-last, list-next}
+use Rattle.cells.proofs.Reading.{Listing, list-first, list-failed, list-zero, list-last, list-next}
 use Rattle.declarations.proofs.Stating.{none-declared}
 use Rattle.declarations.proofs.Arraying.{array-next}
 use borrow.Author.Needs.{needs}

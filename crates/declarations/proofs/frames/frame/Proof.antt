@@ -1,8 +1,8 @@
 -- `frames::frame` meets its contract. Assumes nothing.
 use mathlib.Core.Path.{refl, _∙_}
 use native.Mathlib.Omega.{arith}
-use Rattle.declarations.specs.Reads.{Reads}
-use Rattle.declarations.proofs.Reading.{came, failed-as}
+use Rattle.cells.specs.Reads.Reads.{read, fails}
+use Rattle.cells.proofs.Reading.{came, failed-as}
 use Rattle.declarations.proofs.Proceeding.{frame-parsed, frame-framed}
 use borrow.Author.Needs.{needs}
 use Rattle.declarations.proofs.frames.frame.Statement.{statement}
@@ -27,13 +27,13 @@ same-length-2 : tie.Need-same-length-2
 same-length-2 c = c .before .before .before .before .before .before .before .locals .kept .1 .1 .0
 
 returns : tie.Need-returns
-returns c = Reads.fails (frame-parsed _ _ (c .before .before .before .before .before .before .before .before .before .before .before .before .before .local-scope .ensures) (failed-as (c .before .before .before .before .before .before .before .locals .ensures) (c .enum-told2 .given .1))) (c .enum-told2 .given .1)
+returns c = fails (frame-parsed _ _ (c .before .before .before .before .before .before .before .before .before .before .before .before .before .local-scope .ensures) (failed-as (c .before .before .before .before .before .before .before .locals .ensures) (c .enum-told2 .given .1))) (c .enum-told2 .given .1) tt
 
 add-link : tie.Need-add-link
 add-link c =
     let h = c .before .before .before .before .before .before .before .before .before .before .before .before .before .before .before .before .before .before .before .before .pre .0 in
     let r = came (c .before .before .before .before .before .before .before .before .before .locals .ensures) (c .before .before .enum-told .given .1) in
-    let q = r .does .room in omega (arith, h .used, h .fits, h .ends .last, q .few, q .each)
+    let q = r .holds .room in omega (arith, h .used, h .fits, h .ends .last, q .few, q .each)
 
 lay-link-requires : tie.Need-lay-link-requires
 lay-link-requires c κs = search needs
@@ -42,7 +42,7 @@ add-t23 : tie.Need-add-t23
 add-t23 c =
     let h = c .before .before .before .before .before .before .before .before .before .before .before .before .before .before .before .before .before .before .before .before .before .before .before .before .before .pre .0 in
     let r = came (c .before .before .before .before .before .before .before .before .before .before .before .before .before .before .locals .ensures) (c .before .before .before .before .before .before .before .enum-told .given .1) in
-    let q = r .does .room in omega (arith, h .used, h .fits, h .ends .last, q .few, q .each)
+    let q = r .holds .room in omega (arith, h .used, h .fits, h .ends .last, q .few, q .each)
 
 same-length-3 : tie.Need-same-length-3
 same-length-3 c = c .before .before .before .before .before .before .before .before .before .before .before .before .before .before .locals .kept .1 .0 ∙ c .before .before .before .before .before .before .before .before .before .before .before .before .before .before .before .before .before .before .before .before .local-scope .kept .0
@@ -53,7 +53,7 @@ same-length-4 c = c .before .before .before .lay-link .kept .0 ∙ c .before .be
 returns-2 : tie.Need-returns-2
 returns-2 c =
     let r = came (c .before .before .before .before .before .before .before .before .before .before .before .before .before .before .locals .ensures) (c .before .before .before .before .before .before .before .enum-told .given .1) in
-    Reads.read (frame-parsed _ _ (c .before .before .before .before .before .before .before .before .before .before .before .before .before .before .before .before .before .before .before .before .local-scope .ensures) (r .parsed)) (c .before .before .before .before .before .before .before .enum-told .given .1) (frame-framed _ _ (c .before .before .before .before .before .before .before .before .before .before .before .before .before .before .before .before .before .before .before .before .local-scope .ensures) (r .does) (c .before .before .before .lay-link .ensures) refl refl)
+    read (frame-parsed _ _ (c .before .before .before .before .before .before .before .before .before .before .before .before .before .before .before .before .before .before .before .before .local-scope .ensures) (r .is)) (c .before .before .before .before .before .before .before .enum-told .given .1) (frame-framed _ _ (c .before .before .before .before .before .before .before .before .before .before .before .before .before .before .before .before .before .before .before .before .local-scope .ensures) (r .holds) (c .before .before .before .lay-link .ensures) refl refl)
 
 pub frame-spec : {M : Type 1} → statement M
 frame-spec =

@@ -1,5 +1,6 @@
 -- `frames::local_scope` meets its contract. Assumes nothing.
 use native.Mathlib.Omega.{arith}
+use Rattle.symbols.specs.Trees.{treeSymbol}
 use Rattle.declarations.proofs.Proceeding.{inner-is}
 use borrow.Author.Needs.{needs}
 use Rattle.declarations.proofs.frames.local_scope.Statement.{statement}
@@ -18,6 +19,7 @@ same-length : tie.Need-same-length
 same-length c = search needs
 
 returns : tie.Need-returns
+unfolding treeSymbol
 returns c = inner-is (c .before .before .before .before .before .args .state) _ _ _ (c .before .before .before .before .before .pre .1) (c .before .before .before .before .before .pre .2) (c .before .before .declare .kept .0) (c .before .before .declare .ensures)
 
 pub local-scope-spec : {M : Type 1} → statement M

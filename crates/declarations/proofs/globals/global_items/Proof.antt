@@ -2,7 +2,7 @@
 use mathlib.Core.Path.{refl}
 use Rattle.declarations.specs.Forms.{itemsIn, declarationsOf}
 use Rattle.symbols.specs.Table.{levelOf}
-use Rattle.declarations.proofs.Reading.{reads-as}
+use Rattle.cells.proofs.Reading.{reads-as}
 use Rattle.declarations.proofs.Finishing.{globals-declared}
 use borrow.Author.Needs.{needs}
 use Rattle.declarations.proofs.globals.global_items.Statement.{statement}
@@ -22,7 +22,7 @@ same-length-2 c = c .before .before .before .before .before .before .before .ite
 
 returns : tie.Need-returns
 unfolding itemsIn levelOf
-returns c = reads-as declarationsOf (rw (c .before .before .before .before .before .before .before .before .before .before .global-scope .ensures) at (c .before .before .before .before .before .before .before .items .ensures)) refl refl (λ items d. globals-declared (c .before .before .before .before .before .before .before .before .before .before .before .before .before .before .args .state) (c .before .before .before .before .before .before .before .before .before .before .before .before .before .before .pre .0) d)
+returns c = reads-as declarationsOf (rw (c .before .before .before .before .before .before .before .before .before .before .global-scope .ensures) at (c .before .before .before .before .before .before .before .items .ensures)) refl refl (λ items d. globals-declared (c .before .before .before .before .before .before .before .before .before .before .before .before .before .before .args .state) (c .before .before .before .before .before .before .before .before .before .before .before .before .before .before .pre .0) d) (λ w. w)
 
 pub global-items-spec : {M : Type 1} → statement M
 global-items-spec =

@@ -1,8 +1,9 @@
 -- `items::item` meets its contract. Assumes nothing.
-use Rattle.declarations.specs.Reads.{Reads}
+use Rattle.cells.proofs.Reading.{failed-as}
+use Rattle.declarations.proofs.Reading.{gives-read}
+use Rattle.cells.specs.Reads.Reads.{read, fails}
 use native.Mathlib.Omega.{arith}
 use Rattle.declarations.proofs.Naming.{held-length}
-use Rattle.declarations.proofs.Reading.{with-read, with-failed}
 use Rattle.declarations.proofs.Scoping.{one-scoped, item-room}
 use borrow.Author.Needs.{needs}
 use Rattle.declarations.proofs.items.item.Statement.{statement}
@@ -21,7 +22,7 @@ same-length : tie.Need-same-length
 same-length c = search needs
 
 returns : tie.Need-returns
-returns c = Reads.fails (with-failed _ (c .before .before .item-at .ensures) (c .enum-told2 .given .1)) (c .enum-told2 .given .1)
+returns c = fails (failed-as (c .before .before .item-at .ensures) (c .enum-told2 .given .1)) (c .enum-told2 .given .1) tt
 
 cast-lay : tie.Need-cast-lay
 cast-lay c = search needs
@@ -35,8 +36,8 @@ add-lay c = search needs
 lay-requires : tie.Need-lay-requires
 lay-requires c κs = search needs
 
-kind-of-requires : tie.Need-kind-of-requires
-kind-of-requires c κs = search needs
+symbol-of-requires : tie.Need-symbol-of-requires
+symbol-of-requires c κs = search needs
 
 declare-requires : tie.Need-declare-requires
 declare-requires c κs = search needs
@@ -57,12 +58,12 @@ returns-2 : tie.Need-returns-2
 returns-2 c =
     let r = c .before .before .before .before .before .before .before .before .before .before .before .before .before .before .before .before .before .pre in
     let scope = c .before .before .before .before .before .before .before .before .before .before .before .before .before .before .before .before .before .args .scope in
-    let parsed = with-read (c .before .before .before .before .before .before .before .before .before .before .before .before .item-at .ensures) (c .before .before .before .before .before .before .before .before .before .before .enum-told .given .1) in
+    let parsed = gives-read (c .before .before .before .before .before .before .before .before .before .before .before .before .item-at .ensures) (c .before .before .before .before .before .before .before .before .before .before .enum-told .given .1) in
     let few = item-room _ _ _ _ parsed in
     let held = held-length (scope .names) (c .before .before .before .before .before .before .before .before .before .before .before .before .before .before .before .before .before .args .table .now) (omega (arith, r .long, r .few)) in
-    let d = rw (c .before .before .before .kind-of .ensures) at (c .before .before .declare .ensures) in
+    let d = rw (c .before .before .before .symbol-of .ensures) at (c .before .before .declare .ensures) in
     let l = c .before .before .before .before .before .before .before .lay .ensures in
-    Reads.read parsed (c .before .before .before .before .before .before .before .before .before .before .enum-told .given .1)
+    read parsed (c .before .before .before .before .before .before .before .before .before .before .enum-told .given .1)
     (one-scoped scope _ _ _ _ _ _ _ r (omega (arith, few, held)) (c .before .before .declare .kept .0) d (l .1) (l .2) (l .0))
 
 pub item-spec : {M : Type 1} → statement M
@@ -78,7 +79,7 @@ item-spec =
     cast-lay-2
     add-lay
     lay-requires
-    kind-of-requires
+    symbol-of-requires
     declare-requires
     add-t20
     add-t27

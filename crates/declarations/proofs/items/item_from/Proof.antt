@@ -26,11 +26,11 @@ returns c = rw (c .enum-told .given .1) (from-integer _ _ _ _)
 
 returns-2 : tie.Need-returns-2
 unfolding treeWord treeItem
-returns-2 c = rw (c .before .enum-told2 .given .1) (from-constant _ _ _ _ _ _ (c .value-at .ensures))
+returns-2 c = rw (c .before .enum-told2 .given .1) (from-constant _ _ _ _ (c .value-at .ensures))
 
 returns-3 : tie.Need-returns-3
 unfolding treeWord treeItem
-returns-3 c = rw (c .before .enum-told3 .given .1) (from-compconstant _ _ _ _ _ _ (c .value-at2 .ensures))
+returns-3 c = rw (c .before .enum-told3 .given .1) (from-compconstant _ _ _ _ (c .value-at2 .ensures))
 
 pub item-from-spec : {M : Type 1} → statement M
 item-from-spec =

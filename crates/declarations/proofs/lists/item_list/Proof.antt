@@ -6,7 +6,7 @@ use Rattle.source.specs.Kinds
 use Rattle.syntax.specs.Parse.{parted}
 use Rattle.syntax.specs.Declarations.{parseLocal}
 use Rattle.declarations.specs.Scopes.{scopeOf, treeWord, Scoped}
-use Rattle.declarations.proofs.Reading.{Listing, list-first, list-failed, list-zero, list-last, list-next}
+use Rattle.cells.proofs.Reading.{Listing, list-first, list-failed, list-zero, list-last, list-next}
 use Rattle.declarations.proofs.Scoping.{none-scoped, local-next}
 use borrow.Author.Needs.{needs}
 use Rattle.declarations.proofs.lists.item_list.Statement.{statement}

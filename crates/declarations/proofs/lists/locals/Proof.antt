@@ -4,7 +4,7 @@ use lib.ListN.{length}
 use Rattle.syntax.specs.Declarations.{parseLocals}
 use Rattle.declarations.specs.Scopes.{scopeOf, Scoped}
 use Rattle.declarations.specs.Procedures.{treeFound}
-use Rattle.declarations.proofs.Reading.{Turning, turn-zero, turn-none, turn-failed, turn-next}
+use Rattle.cells.proofs.Reading.{Turning, turn-zero, turn-none, turn-failed, turn-next}
 use Rattle.declarations.proofs.Scoping.{none-scoped}
 use Rattle.declarations.proofs.Locals.{localMore, locals-first, local-none, local-some, locals-next}
 use borrow.Author.Needs.{needs}

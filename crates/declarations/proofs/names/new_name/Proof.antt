@@ -1,4 +1,5 @@
 -- `names::new_name` meets its contract. Assumes nothing.
+use Rattle.declarations.proofs.Reading.{gives}
 use Rattle.declarations.proofs.Naming.{new-is}
 use borrow.Author.Needs.{needs}
 use Rattle.declarations.proofs.names.new_name.Statement.{statement}
@@ -17,7 +18,7 @@ pass-at-requires : tie.Need-pass-at-requires
 pass-at-requires c κs = search needs
 
 returns : tie.Need-returns
-returns c = new-is _ _ _ _ (c .before .before .before .token-at .ensures) (c .before .before .pack .ensures) (c .before .name-failure .ensures) (c .pass-at .ensures)
+returns c = gives _ (new-is _ _ _ _ (c .before .before .before .token-at .ensures) (c .before .before .pack .ensures) (c .before .name-failure .ensures) (c .pass-at .ensures))
 
 pub new-name-spec : {M : Type 1} → statement M
 new-name-spec =

@@ -1,7 +1,9 @@
 -- `procedures::accumulator` meets its contract. Assumes nothing.
-use Rattle.declarations.specs.Reads.{Reads}
+use Rattle.cells.specs.Reads.Reads.{fails}
 use Rattle.declarations.specs.Forms.{accumulatorIn}
-use Rattle.declarations.proofs.Reading.{then-got, then-failed, expected, part-failed, reads-on}
+use Rattle.cells.proofs.Laws.{then-got, then-failed, part-failed}
+use Rattle.cells.proofs.Reading.{reads-on}
+use Rattle.declarations.proofs.Reading.{expected}
 use borrow.Author.Needs.{needs}
 use Rattle.declarations.proofs.procedures.accumulator.Statement.{statement}
 use Rattle.declarations.proofs.procedures.accumulator.Tie as tie
@@ -17,7 +19,7 @@ enum-told c = search needs
 
 returns : tie.Need-returns
 unfolding accumulatorIn
-returns c = Reads.fails (then-failed _ (part-failed _ (c .before .before .expect .ensures) (c .enum-told .given .1))) (c .enum-told .given .1)
+returns c = fails (then-failed _ (part-failed _ (c .before .before .expect .ensures) (c .enum-told .given .1))) (c .enum-told .given .1) tt
 
 procedure-requires : tie.Need-procedure-requires
 procedure-requires c κs = c .before .before .before .before .before .before .before .before .before .pre

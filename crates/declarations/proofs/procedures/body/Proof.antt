@@ -1,8 +1,8 @@
 -- `procedures::body` meets its contract. Assumes nothing.
 use mathlib.Core.Path.{_∙_}
-use Rattle.declarations.specs.Reads.{Reads}
-use Rattle.declarations.proofs.Reading.{came, failed-as}
-use Rattle.declarations.proofs.Proceeding.{compiled, compiled-failed, body-locals, body-statements, body-on, body-bodied}
+use Rattle.cells.specs.Reads.Reads.{read, fails}
+use Rattle.cells.proofs.Reading.{came, failed-as}
+use Rattle.declarations.proofs.Proceeding.{body-locals, body-statements, body-on, body-bodied}
 use borrow.Author.Needs.{needs}
 use Rattle.declarations.proofs.procedures.body.Statement.{statement}
 use Rattle.declarations.proofs.procedures.body.Tie as tie
@@ -23,7 +23,7 @@ same-length-2 : tie.Need-same-length-2
 same-length-2 c = c .before .before .before .before .before .before .before .frame .kept .1 .1 .0
 
 returns : tie.Need-returns
-returns c = Reads.fails (body-locals _ _ _ _ (failed-as (c .before .before .before .before .before .before .before .frame .ensures) (c .enum-told .given .1))) (c .enum-told .given .1)
+returns c = fails (body-locals _ _ _ _ (failed-as (c .before .before .before .before .before .before .before .frame .ensures) (c .enum-told .given .1))) (c .enum-told .given .1) tt
 
 statements-requires : tie.Need-statements-requires
 statements-requires c κs = search needs
@@ -43,7 +43,7 @@ same-length-4 c = c .before .before .before .before .before .statements .kept .1
 returns-2 : tie.Need-returns-2
 returns-2 c =
     let r = came (c .before .before .before .before .before .before .before .before .before .before .before .before .before .before .before .before .frame .ensures) (c .before .before .before .before .before .before .before .before .before .part .given .1) in
-    Reads.fails (body-statements _ _ _ _ (r .parsed) (r .does .alive) (compiled-failed (c .before .before .before .before .before .statements .ensures) (c .enum-told3 .given .1))) (c .enum-told3 .given .1)
+    fails (body-statements _ _ _ _ (r .is) (r .holds .alive) (failed-as (c .before .before .before .before .before .statements .ensures) (c .enum-told3 .given .1))) (c .enum-told3 .given .1) tt
 
 emit-return-requires : tie.Need-emit-return-requires
 emit-return-requires c κs = search needs
@@ -57,8 +57,8 @@ same-length-6 c = c .before .before .emit-return .kept .0 ∙ c .before .before 
 returns-3 : tie.Need-returns-3
 returns-3 c =
     let r = came (c .before .before .before .before .before .before .before .before .before .before .before .before .before .before .before .before .before .before .before .before .frame .ensures) (c .before .before .before .before .before .before .before .before .before .before .before .before .before .part .given .1) in
-    let q = compiled (c .before .before .before .before .before .before .before .before .before .statements .ensures) (c .before .before .before .before .enum-told2 .given .1) in
-    Reads.read (body-on _ _ _ _ (r .parsed) (r .does .alive) (q .parsed)) (c .before .before .before .before .enum-told2 .given .1) (body-bodied _ (c .before .before .before .before .before .before .before .before .before .statements .result .output) (r .does) (q .does) (c .before .before .emit-return .ensures))
+    let q = came (c .before .before .before .before .before .before .before .before .before .statements .ensures) (c .before .before .before .before .enum-told2 .given .1) in
+    read (body-on _ _ _ _ (r .is) (r .holds .alive) (q .is)) (c .before .before .before .before .enum-told2 .given .1) (body-bodied _ (c .before .before .before .before .before .before .before .before .before .statements .result .output) (r .holds) (q .holds) (c .before .before .emit-return .ensures .emitted))
 
 pub body-spec : {M : Type 1} → statement M
 body-spec =

@@ -1,6 +1,9 @@
 -- `procedures::heading` meets its contract. Assumes nothing.
 use native.Mathlib.Omega.{arith}
-use Rattle.declarations.proofs.Reading.{with-read, with-failed, failed-with, part-failed, expected}
+use Rattle.cells.specs.Reads.Reads.{fails}
+use Rattle.cells.proofs.Reading.{failed-as}
+use Rattle.cells.proofs.Laws.{part-failed}
+use Rattle.declarations.proofs.Reading.{expected, gives-read}
 use Rattle.declarations.proofs.Proceeding.{heading-name, heading-semicolon, heading-begin}
 use borrow.Author.Needs.{needs}
 use Rattle.declarations.proofs.procedures.heading.Statement.{statement}
@@ -16,7 +19,7 @@ enum-told : tie.Need-enum-told
 enum-told c = search needs
 
 returns : tie.Need-returns
-returns c = failed-with _ (c .enum-told .given .1) (heading-name _ _ _ (with-failed _ (c .before .before .before .global-name .ensures) (c .enum-told .given .1)))
+returns c = fails (heading-name _ _ _ (failed-as (c .before .before .before .global-name .ensures) (c .enum-told .given .1))) (c .enum-told .given .1) tt
 
 expect-requires : tie.Need-expect-requires
 expect-requires c κs = search needs
@@ -28,13 +31,13 @@ enum-told-2 : tie.Need-enum-told-2
 enum-told-2 c = search needs
 
 returns-2 : tie.Need-returns-2
-returns-2 c = failed-with _ (c .enum-told2 .given .1) (heading-semicolon _ _ _ (with-read (c .before .before .before .before .before .before .before .global-name .ensures) (c .before .before .before .before .part .given .1)) (part-failed _ (c .before .before .expect .ensures) (c .enum-told2 .given .1)))
+returns-2 c = fails (heading-semicolon _ _ _ (gives-read (c .before .before .before .before .before .before .before .global-name .ensures) (c .before .before .before .before .part .given .1)) (part-failed _ (c .before .before .expect .ensures) (c .enum-told2 .given .1))) (c .enum-told2 .given .1) tt
 
 expect-requires-2 : tie.Need-expect-requires-2
 expect-requires-2 c κs = search needs
 
 returns-3 : tie.Need-returns-3
-returns-3 c = heading-begin _ _ _ (with-read (c .before .before .before .before .before .before .before .before .before .global-name .ensures) (c .before .before .before .before .before .before .part .given .1)) (expected _ _ _ (c .before .before .before .before .expect .ensures) (c .before .before .part2 .given .1)) (c .expect2 .ensures)
+returns-3 c = heading-begin _ _ _ (gives-read (c .before .before .before .before .before .before .before .before .before .global-name .ensures) (c .before .before .before .before .before .before .part .given .1)) (expected _ _ _ (c .before .before .before .before .expect .ensures) (c .before .before .part2 .given .1)) (c .expect2 .ensures)
 
 pub heading-spec : {M : Type 1} → statement M
 heading-spec =

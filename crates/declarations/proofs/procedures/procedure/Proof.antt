@@ -1,10 +1,12 @@
 -- `procedures::procedure` meets its contract. Assumes nothing.
 use mathlib.Core.Path.{refl, _∙_}
 use native.Mathlib.Omega.{arith}
-use Rattle.declarations.specs.Reads.{Reads}
+use Rattle.declarations.proofs.Reading.{gives-read}
+use Rattle.cells.specs.Reads.Reads.{read, fails}
+use Rattle.symbols.specs.Trees.{treeSymbol}
 use Rattle.declarations.specs.States.{stateOf}
 use Rattle.declarations.proofs.Naming.{held-length}
-use Rattle.declarations.proofs.Reading.{with-read, with-failed, came, failed-as}
+use Rattle.cells.proofs.Reading.{came, failed-as}
 use Rattle.declarations.proofs.Proceeding.{heading-room, procedure-heading, procedure-body, procedure-ended, procedure-on, procedure-limit, procedure-declared, end-limit}
 use borrow.Author.Needs.{needs}
 use Rattle.declarations.proofs.procedures.procedure.Statement.{statement}
@@ -23,7 +25,7 @@ same-length : tie.Need-same-length
 same-length c = search needs
 
 returns : tie.Need-returns
-returns c = Reads.fails (procedure-heading _ _ _ _ (with-failed _ (c .before .before .before .heading .ensures) (c .enum-told .given .1))) (c .enum-told .given .1)
+returns c = fails (procedure-heading _ _ _ _ (failed-as (c .before .before .before .heading .ensures) (c .enum-told .given .1))) (c .enum-told .given .1) tt
 
 end-of-requires : tie.Need-end-of-requires
 end-of-requires c κs = c .before .before .before .before .before .before .before .before .before .before .before .before .pre .0 .ends .last
@@ -33,7 +35,7 @@ body-requires c κs =
     let h = c .before .before .before .before .before .before .before .before .before .before .before .before .before .pre .0 in
     let s = c .before .before .before .before .before .before .before .before .before .before .before .before .before .args .state in
     let table = c .before .before .before .before .before .before .before .before .before .before .before .before .before .args .table .now in
-    let head = with-read (c .before .before .before .before .before .before .before .before .heading .ensures) (c .before .before .before .before .before .part .given .1) in
+    let head = gives-read (c .before .before .before .before .before .before .before .before .heading .ensures) (c .before .before .before .before .before .part .given .1) in
     let few = heading-room (c .before .before .before .before .before .before .before .before .before .before .before .before .before .args .source .now) (stateOf s table .scope) (c .before .before .before .before .before .before .before .before .before .before .before .before .before .args .at) head in
     let held = held-length (s .names) table (let l = c .before .before .before .before .before .before .before .before .before .before .before .before .before .pre .1 in omega (arith, h .few, l)) in
     (h, c .before .before .before .before .before .before .before .before .before .before .before .before .before .pre .1, omega (arith, few, held))
@@ -52,8 +54,8 @@ same-length-3 c = c .before .before .before .before .before .before .before .bod
 
 returns-2 : tie.Need-returns-2
 returns-2 c =
-    let head = with-read (c .before .before .before .before .before .before .before .before .before .before .before .before .before .before .before .before .heading .ensures) (c .before .before .before .before .before .before .before .before .before .before .before .before .before .part .given .1) in
-    Reads.fails (procedure-body _ _ _ _ head (failed-as (c .before .before .before .before .before .before .before .body .ensures) (c .enum-told2 .given .1))) (c .enum-told2 .given .1)
+    let head = gives-read (c .before .before .before .before .before .before .before .before .before .before .before .before .before .before .before .before .heading .ensures) (c .before .before .before .before .before .before .before .before .before .before .before .before .before .part .given .1) in
+    fails (procedure-body _ _ _ _ head (failed-as (c .before .before .before .before .before .before .before .body .ensures) (c .enum-told2 .given .1))) (c .enum-told2 .given .1) tt
 
 ended-requires : tie.Need-ended-requires
 ended-requires c κs = c .before .before .before .before .before .before .before .before .before .before .before .before .before .before .before .before .before .before .before .before .before .before .pre .0 .ends .last
@@ -73,11 +75,11 @@ same-length-5 c = c .before .before .before .before .before .before .before .bef
 returns-3 : tie.Need-returns-3
 returns-3 c =
     let h = c .before .before .before .before .before .before .before .before .before .before .before .before .before .before .before .before .before .before .before .before .before .before .before .before .before .pre .0 in
-    let head = with-read (c .before .before .before .before .before .before .before .before .before .before .before .before .before .before .before .before .before .before .before .before .heading .ensures) (c .before .before .before .before .before .before .before .before .before .before .before .before .before .before .before .before .before .part .given .1) in
+    let head = gives-read (c .before .before .before .before .before .before .before .before .before .before .before .before .before .before .before .before .before .before .before .before .heading .ensures) (c .before .before .before .before .before .before .before .before .before .before .before .before .before .before .before .before .before .part .given .1) in
     let r = came (c .before .before .before .before .before .before .before .before .before .before .before .body .ensures) (c .before .before .before .before .part2 .given .1) in
-    let l = procedure-limit (c .before .before .before .before .before .before .before .before .before .before .before .before .before .before .before .before .before .before .before .before .before .before .before .before .before .args .accumulator) h (r .does) in
+    let l = procedure-limit (c .before .before .before .before .before .before .before .before .before .before .before .before .before .before .before .before .before .before .before .before .before .before .before .before .before .args .accumulator) h (r .holds) in
     let e = c .before .before .ended .ensures in
-    Reads.fails (procedure-ended _ _ _ _ head (r .parsed) _ l e (c .enum-told4 .given .1)) (c .enum-told4 .given .1)
+    fails (procedure-ended _ _ _ _ head (r .is) _ l e (c .enum-told4 .given .1)) (c .enum-told4 .given .1) tt
 
 declare-global-requires : tie.Need-declare-global-requires
 declare-global-requires c κs = let h = c .before .before .before .before .before .before .before .before .before .before .before .before .before .before .before .before .before .before .before .before .before .before .before .before .before .before .pre .0 in (h .few, h .each)
@@ -89,19 +91,20 @@ same-length-7 : tie.Need-same-length-7
 same-length-7 c = c .before .before .before .before .before .before .before .before .before .before .before .before .before .before .before .body .kept .1 .1 .0
 
 returns-4 : tie.Need-returns-4
+unfolding treeSymbol
 returns-4 c =
     let h = c .before .before .before .before .before .before .before .before .before .before .before .before .before .before .before .before .before .before .before .before .before .before .before .before .before .before .before .before .before .pre .0 in
     let s = c .before .before .before .before .before .before .before .before .before .before .before .before .before .before .before .before .before .before .before .before .before .before .before .before .before .before .before .before .before .args .state in
     let table = c .before .before .before .before .before .before .before .before .before .before .before .before .before .before .before .before .before .before .before .before .before .before .before .before .before .before .before .before .before .args .table .now in
-    let head = with-read (c .before .before .before .before .before .before .before .before .before .before .before .before .before .before .before .before .before .before .before .before .before .before .before .before .heading .ensures) (c .before .before .before .before .before .before .before .before .before .before .before .before .before .before .before .before .before .before .before .before .before .part .given .1) in
+    let head = gives-read (c .before .before .before .before .before .before .before .before .before .before .before .before .before .before .before .before .before .before .before .before .before .before .before .before .heading .ensures) (c .before .before .before .before .before .before .before .before .before .before .before .before .before .before .before .before .before .before .before .before .before .part .given .1) in
     let few = heading-room (c .before .before .before .before .before .before .before .before .before .before .before .before .before .before .before .before .before .before .before .before .before .before .before .before .before .before .before .before .before .args .source .now) (stateOf s table .scope) (c .before .before .before .before .before .before .before .before .before .before .before .before .before .before .before .before .before .before .before .before .before .before .before .before .before .before .before .before .before .args .at) head in
     let held = held-length (s .names) table (let l = c .before .before .before .before .before .before .before .before .before .before .before .before .before .before .before .before .before .before .before .before .before .before .before .before .before .before .before .before .before .pre .1 in omega (arith, h .few, l)) in
     let r = came (c .before .before .before .before .before .before .before .before .before .before .before .before .before .before .before .body .ensures) (c .before .before .before .before .before .before .before .before .part2 .given .1) in
-    let l = procedure-limit (c .before .before .before .before .before .before .before .before .before .before .before .before .before .before .before .before .before .before .before .before .before .before .before .before .before .before .before .before .before .args .accumulator) h (r .does) in
+    let l = procedure-limit (c .before .before .before .before .before .before .before .before .before .before .before .before .before .before .before .before .before .before .before .before .before .before .before .before .before .before .before .before .before .args .accumulator) h (r .holds) in
     let e = c .before .before .before .before .before .before .ended .ensures in
     let z = end-limit _ _ _ _ e (c .before .before .before .before .enum-told3 .given .1) in
-    Reads.read (procedure-on _ _ _ _ head (r .parsed) _ l e (c .before .before .before .before .enum-told3 .given .1)) (c .before .before .before .before .enum-told3 .given .1)
-    (rw (c .before .before .declare-global .ensures .1) (procedure-declared _ h (r .does) (c .before .before .before .before .before .before .before .before .before .before .before .before .before .before .before .before .before .before .before .before .before .before .before .before .before .before .before .before .before .args .plan) _ _ refl (c .before .before .before .before .before .before .before .before .before .before .before .before .before .before .before .before .end-of .ensures) (c .before .before .before .before .before .before .before .before .before .before .before .before .before .before .before .before .before .before .before .before .before .before .before .before .before .before .before .before .before .pre .1) held few (c .before .before .before .before .before .before .before .before .before .before .before .before .before .before .before .body .kept .1 .0) (c .before .before .declare-global .kept .0) (c .before .before .declare-global .ensures .0) z))
+    read (procedure-on _ _ _ _ head (r .is) _ l e (c .before .before .before .before .enum-told3 .given .1)) (c .before .before .before .before .enum-told3 .given .1)
+    (rw (c .before .before .declare-global .ensures .1) (procedure-declared _ h (r .holds) (c .before .before .before .before .before .before .before .before .before .before .before .before .before .before .before .before .before .before .before .before .before .before .before .before .before .before .before .before .before .args .plan) _ _ refl (c .before .before .before .before .before .before .before .before .before .before .before .before .before .before .before .before .end-of .ensures) (c .before .before .before .before .before .before .before .before .before .before .before .before .before .before .before .before .before .before .before .before .before .before .before .before .before .before .before .before .before .pre .1) held few (c .before .before .before .before .before .before .before .before .before .before .before .before .before .before .before .body .kept .1 .0) (c .before .before .declare-global .kept .0) (c .before .before .declare-global .ensures .0) z))
 
 pub procedure-spec : {M : Type 1} → statement M
 procedure-spec =

@@ -2,7 +2,7 @@
 use mathlib.Core.Path.{_∙_}
 use Rattle.declarations.specs.States.{endOf}
 use Rattle.declarations.specs.Procedures.{treeFound}
-use Rattle.declarations.proofs.Reading.{reads-to, reads-on}
+use Rattle.cells.proofs.Reading.{reads-to, reads-on}
 use Rattle.declarations.proofs.Limiting.{next-any}
 use Rattle.declarations.proofs.Dispatching.{in-items, in-array, in-sector, in-procedure, in-accumulator}
 use borrow.Author.Needs.{needs}
@@ -26,7 +26,7 @@ same-length-2 c = c .before .before .before .before .global-items .kept .1 .1 .0
 
 returns : tie.Need-returns
 unfolding treeFound
-returns c = reads-to (in-items _ _ _ _ (rw (c .before .before .before .before .before .before .before .before .found .given .1) at (c .before .before .before .before .before .before .before .before .before .before .item-word .ensures))) (λ _ d. d (endOf (c .before .before .before .before .before .before .before .before .before .before .before .before .before .before .args .plan))) (c .before .before .before .before .global-items .ensures)
+returns c = reads-to (in-items _ _ _ _ (rw (c .before .before .before .before .before .before .before .before .found .given .1) at (c .before .before .before .before .before .before .before .before .before .before .item-word .ensures))) (λ _ d. d (endOf (c .before .before .before .before .before .before .before .before .before .before .before .before .before .before .args .plan))) (λ w. w) (c .before .before .before .before .global-items .ensures)
 
 enum-told : tie.Need-enum-told
 enum-told c = search needs
@@ -41,7 +41,7 @@ same-length-4 : tie.Need-same-length-4
 same-length-4 c = c .before .before .before .before .arrays .kept .1 .1 .0
 
 returns-2 : tie.Need-returns-2
-returns-2 c = reads-to (in-array _ _ _ (c .before .before .before .before .before .before .before .if1 .taken)) (λ _ d. d (endOf (c .before .before .before .before .before .before .before .before .before .before .before .before .before .before .args .plan))) (c .before .before .before .before .arrays .ensures)
+returns-2 c = reads-to (in-array _ _ _ (c .before .before .before .before .before .before .before .if1 .taken)) (λ _ d. d (endOf (c .before .before .before .before .before .before .before .before .before .before .before .before .before .before .args .plan))) (λ w. w) (c .before .before .before .before .arrays .ensures)
 
 next-sector-requires : tie.Need-next-sector-requires
 next-sector-requires c κs = c .before .before .before .before .before .before .before .before .before .pre .0
@@ -50,7 +50,7 @@ same-length-5 : tie.Need-same-length-5
 same-length-5 c = c .before .before .next-sector .kept .1 .0
 
 returns-3 : tie.Need-returns-3
-returns-3 c = reads-to (in-sector _ _ (c .before .before .before .before .before .before .before .before .before .before .before .before .args .t) (c .before .before .before .before .if2 .taken) ∙ next-any _ (c .before .before .before .before .before .before .before .before .before .before .before .before .args .state) _ _) (λ _ d. d .at (c .before .before .before .before .before .before .before .before .before .before .before .before .args .table .now) (endOf (c .before .before .before .before .before .before .before .before .before .before .before .before .args .plan))) (c .before .before .next-sector .ensures)
+returns-3 c = reads-to (in-sector _ _ (c .before .before .before .before .before .before .before .before .before .before .before .before .args .t) (c .before .before .before .before .if2 .taken) ∙ next-any _ (c .before .before .before .before .before .before .before .before .before .before .before .before .args .state) _ _) (λ _ d. d .at (c .before .before .before .before .before .before .before .before .before .before .before .before .args .table .now) (endOf (c .before .before .before .before .before .before .before .before .before .before .before .before .args .plan))) (λ w. w) (c .before .before .next-sector .ensures)
 
 procedure-requires : tie.Need-procedure-requires
 procedure-requires c κs = c .before .before .before .before .before .before .before .before .before .before .before .pre

@@ -5,7 +5,7 @@ use native.Mathlib.Omega.{arith}
 use borrow.Author.Tests.{not-true, not-false}
 use Rattle.syntax.specs.Declarations.{parseDeclarations}
 use Rattle.declarations.specs.States.{endOf, Declared}
-use Rattle.declarations.proofs.Reading.{Turning, turn-zero, turn-none, turn-failed, turn-next}
+use Rattle.cells.proofs.Reading.{Turning, turn-zero, turn-none, turn-failed, turn-next}
 use Rattle.declarations.proofs.Stating.{none-declared}
 use Rattle.declarations.proofs.Dispatching.{declarationMore, declarations-first, declaration-none, declaration-some, declaration-next}
 use borrow.Author.Needs.{needs}

@@ -1,87 +1,36 @@
--- `program::program` meets its contract. Assumes nothing.
-use mathlib.Core.Path.{refl, ap, _∙_}
-use native.Mathlib.Omega.{arith}
-use Rattle.declarations.specs.Reads.{Reads}
-use mathlib.Core.List.{foldl}
-use Rattle.syntax.specs.State.{step, stateAfter}
-use Rattle.declarations.proofs.Reading.{came, failed-as, part-failed, expected, reads-as}
-use Rattle.declarations.proofs.Finishing.{program-begin, program-declarations, program-main, program-compiled}
+-- A short table is refused; else it is the program, and no call changes a length. Assumes nothing.
+use mathlib.Core.Path.{refl}
 use borrow.Author.Needs.{needs}
+use borrow.Author.Tests.{le-leb, lt-leb}
+use Rattle.cells.specs.Reads.Reads.{fails}
+use Rattle.cells.proofs.Reading.{reads-on}
+use Rattle.declarations.specs.Procedures.{programOn}
 use Rattle.declarations.proofs.program.program.Statement.{statement}
 use Rattle.declarations.proofs.program.program.Tie as tie
 
 start-state-requires : tie.Need-start-state-requires
 start-state-requires c κs = search needs
 
-expect-requires : tie.Need-expect-requires
-expect-requires c κs = search needs
-
-enum-known-part : tie.Need-enum-known-part
-enum-known-part c = search needs
-
-enum-told : tie.Need-enum-told
-enum-told c = search needs
-
 returns : tie.Need-returns
-returns c = Reads.fails (program-begin _ (part-failed _ (c .before .before .expect .ensures) (c .enum-told .given .1))) (c .enum-told .given .1)
+unfolding programOn
+returns c = (fails {k = 2} {at = 0} (rw (lt-leb _ _ (c .before .before .if1 .taken))) refl tt, record { table-kept = refl; image-kept = refl })
 
-declarations-requires : tie.Need-declarations-requires
-declarations-requires c κs = (c .before .before .before .before .before .before .before .start-state .ensures, c .before .before .before .before .before .before .before .before .before .before .before .pre)
-
-enum-known-part-2 : tie.Need-enum-known-part-2
-enum-known-part-2 c = search needs
-
-enum-told-2 : tie.Need-enum-told-2
-enum-told-2 c = search needs
+whole-requires : tie.Need-whole-requires
+whole-requires c κs = search needs
 
 same-length : tie.Need-same-length
-same-length c = c .before .before .before .before .before .before .before .declarations .kept .1 .0
+same-length c = search needs
 
 same-length-2 : tie.Need-same-length-2
-same-length-2 c = c .before .before .before .before .before .before .before .declarations .kept .1 .1 .0
+same-length-2 c = search needs
 
 returns-2 : tie.Need-returns-2
-returns-2 c = Reads.fails (program-declarations _ (expected _ _ _ (c .before .before .before .before .before .before .before .before .before .before .before .before .before .expect .ensures) (c .before .before .before .before .before .before .before .before .before .before .before .part .given .1)) (failed-as (c .before .before .before .before .before .before .before .declarations .ensures) (c .enum-told2 .given .1))) (c .enum-told2 .given .1)
-
-main-body-requires : tie.Need-main-body-requires
-main-body-requires c κs =
-    let r = came (c .before .before .before .before .before .before .before .before .before .before .declarations .ensures) (c .before .before .before .part2 .given .1) in
-    let p = c .before .before .before .before .before .before .before .before .before .before .before .before .before .before .before .before .before .before .before .before .before .before .pre in
-    let k = c .before .before .before .before .before .before .before .before .before .before .declarations .kept .1 .0 in
-    (r .does .sound, omega (arith, p, k))
-
-same-length-3 : tie.Need-same-length-3
-same-length-3 c = c .before .before .before .before .before .before .before .before .before .before .before .before .before .before .declarations .kept .1 .0
-
-same-length-4 : tie.Need-same-length-4
-same-length-4 c = c .before .before .before .main-body .kept .1 .1 .0 ∙ c .before .before .before .before .before .before .before .before .before .before .before .before .before .before .declarations .kept .1 .1 .0
-
-returns-3 : tie.Need-returns-3
-unfolding stateAfter
-returns-3 c =
-    let r = came (c .before .before .before .before .before .before .before .before .before .before .before .before .before .before .declarations .ensures) (c .before .before .before .before .before .before .before .part2 .given .1) in
-    let starts = c .before .before .before .before .before .before .before .before .before .before .before .before .before .before .before .before .before .before .before .before .before .before .start-state .ensures .state (c .before .before .before .before .before .before .before .before .before .before .before .before .before .before .before .before .before .before .before .before .before .before .before .before .before .before .args .table .now) in
-    let state = r .does .state ∙ ap (λ x. foldl step x (r .tree)) starts in
-    reads-as (λ main. record { declarations = r .tree; main = main }) (c .before .before .before .main-body .ensures) refl
-    (program-main _ (expected _ _ _ (c .before .before .before .before .before .before .before .before .before .before .before .before .before .before .before .before .before .before .before .before .expect .ensures) (c .before .before .before .before .before .before .before .before .before .before .before .before .before .before .before .before .before .before .part .given .1)) (r .parsed) state)
-    (λ main d. program-compiled starts (r .does) d)
+unfolding programOn
+returns-2 c =
+    let call = c .before .before .before .before in
+    (reads-on (rw (le-leb _ _ (call .before .before .before .if1 .left))) (call .whole .ensures), record { table-kept = call .whole .kept .1 .0; image-kept = call .whole .kept .1 .1 .0 })
 
 pub program-spec : {M : Type 1} → statement M
 program-spec =
     tie.close
-    (tie.spec
-    start-state-requires
-    expect-requires
-    enum-known-part
-    enum-told
-    returns
-    declarations-requires
-    enum-known-part-2
-    enum-told-2
-    same-length
-    same-length-2
-    returns-2
-    main-body-requires
-    same-length-3
-    same-length-4
-    returns-3)
+    (tie.spec start-state-requires returns whole-requires same-length same-length-2 returns-2)

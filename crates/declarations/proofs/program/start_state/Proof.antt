@@ -4,6 +4,7 @@ use native.Mathlib.Omega.{arith}
 use lib.ListN.{length}
 use mathlib.Core.List.{[]}
 use Rattle.syntax.specs.Symbols.{Level}
+use Rattle.emitter.specs.Emitted.{heldBy, noPool}
 use Rattle.declarations.proofs.Finishing.{none-alive}
 use borrow.Author.Needs.{needs}
 use Rattle.declarations.proofs.program.start_state.Statement.{statement}
@@ -13,8 +14,9 @@ empty-pool-requires : tie.Need-empty-pool-requires
 empty-pool-requires c κs = search needs
 
 returns : tie.Need-returns
+unfolding noPool
 returns c =
-    let e = c .empty-pool .ensures in
+    let e = ap heldBy (c .empty-pool .ensures) in
     let l = ap length e in
     record {
       state = λ table. ap₂ (λ x y. record { scope = record { names = x; level = Level.outer; words = 0 }; code = 0o1000; pool = y; ends = []; array = 16383 }) (none-alive table) e;

@@ -1,5 +1,6 @@
 -- `sectors::close` meets its contract. Assumes nothing.
-use mathlib.Core.Path.{refl}
+use mathlib.Core.Path.{refl, ap}
+use Rattle.emitter.specs.Emitted.{heldBy, noPool}
 use Rattle.declarations.proofs.Stating.{next-moved}
 use borrow.Author.Needs.{needs}
 use Rattle.declarations.proofs.sectors.close.Statement.{statement}
@@ -27,8 +28,9 @@ same-length : tie.Need-same-length
 same-length c = search needs
 
 returns : tie.Need-returns
+unfolding noPool
 returns c =
-    next-moved _ _ _ _ _ (c .before .before .before .before .before .before .before .before .before .before .pre .0) (c .before .before .before .before .before .before .before .before .before .before .pre .1) (c .before .with-end .ensures) refl (c .empty-pool .ensures) (c .before .before .before .before .before .store-pool .ensures)
+    next-moved _ _ _ _ _ (c .before .before .before .before .before .before .before .before .before .before .pre .0) (c .before .before .before .before .before .before .before .before .before .before .pre .1) (c .before .with-end .ensures) refl (ap heldBy (c .empty-pool .ensures)) (c .before .before .before .before .before .store-pool .ensures)
 
 pub close-spec : {M : Type 1} → statement M
 close-spec =

@@ -1,9 +1,9 @@
 -- `sectors::next_sector` meets its contract. Assumes nothing.
 use mathlib.Core.Path.{sym, _∙_}
 use mathlib.Core.List.{[]}
+use Rattle.cells.specs.Reads.Reads.{read, fails}
 use Rattle.syntax.specs.Tree.{Declaration}
 use Rattle.syntax.specs.Limits.{declarationLimit, sectorLimit}
-use Rattle.declarations.specs.Reads.{Reads}
 use Rattle.declarations.specs.States.{stateOf}
 use Rattle.declarations.specs.Forms.{judgedIn}
 use Rattle.declarations.proofs.Limiting.{judged-failed, judged-read, judged-limit, follow-fits, next-judged}
@@ -26,7 +26,7 @@ enum-told-2 c = search needs
 
 returns : tie.Need-returns
 unfolding judgedIn declarationLimit
-returns c = Reads.fails (next-judged _ _ _ (c .before .before .before .next-limit .ensures) ∙ judged-failed _ _ _ _ (c .before .before .judged .ensures) (c .enum-told2 .given .1)) (c .enum-told2 .given .1)
+returns c = fails (next-judged _ _ _ (c .before .before .before .next-limit .ensures) ∙ judged-failed _ _ _ _ (c .before .before .judged .ensures) (c .enum-told2 .given .1)) (c .enum-told2 .given .1) tt
 
 close-requires : tie.Need-close-requires
 close-requires c κs =
@@ -39,7 +39,7 @@ same-length c = search needs
 
 returns-2 : tie.Need-returns-2
 unfolding judgedIn declarationLimit
-returns-2 c = Reads.read (next-judged _ _ _ (c .before .before .before .before .before .before .before .next-limit .ensures) ∙ judged-read _ _ _ _ (c .before .before .before .before .before .before .judged .ensures) (c .before .before .before .before .enum-told .given .1)) (c .before .before .before .before .enum-told .given .1) (c .before .before .close .ensures)
+returns-2 c = read (next-judged _ _ _ (c .before .before .before .before .before .before .before .next-limit .ensures) ∙ judged-read _ _ _ _ (c .before .before .before .before .before .before .judged .ensures) (c .before .before .before .before .enum-told .given .1)) (c .before .before .before .before .enum-told .given .1) (c .before .before .close .ensures)
 
 pub next-sector-spec : {M : Type 1} → statement M
 next-sector-spec =

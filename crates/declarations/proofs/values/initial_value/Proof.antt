@@ -1,7 +1,8 @@
 -- `values::initial_value` meets its contract. Assumes nothing.
-use mathlib.Core.Path.{sym, ap, _∙_}
+use mathlib.Core.Path.{sym, ap, _∙_, refl}
+use Rattle.cells.specs.Reads.Reads.{read, fails}
 use Rattle.syntax.specs.Parse.{failAt}
-use Rattle.declarations.proofs.Reading.{with-read, with-failed, failed-with, read-with}
+use Rattle.cells.proofs.Laws.{got-read, got-failed, got-with}
 use Rattle.declarations.proofs.Arraying.{value-failed, value-many, value-got}
 use borrow.Author.Needs.{needs}
 use Rattle.declarations.proofs.values.initial_value.Statement.{statement}
@@ -17,7 +18,7 @@ enum-told-2 : tie.Need-enum-told-2
 enum-told-2 c = search needs
 
 returns : tie.Need-returns
-returns c = failed-with _ (c .enum-told2 .given .1) (value-failed _ _ _ _ _ (with-failed _ (c .before .before .constant-at .ensures) (c .enum-told2 .given .1)))
+returns c = fails (value-failed _ _ _ _ _ (got-failed _ (got-with _ (c .before .before .constant-at .ensures)) (c .enum-told2 .given .1))) (c .enum-told2 .given .1) tt
 
 token-at-requires : tie.Need-token-at-requires
 token-at-requires c κs = search needs
@@ -27,10 +28,10 @@ fail-at-requires c κs = search needs
 
 returns-2 : tie.Need-returns-2
 unfolding failAt
-returns-2 c = failed-with _ (c .fail-at .ensures) (value-many _ _ _ _ _ (with-read (c .before .before .before .before .before .constant-at .ensures) (c .before .before .before .enum-told .given .1)) (c .before .before .if1 .taken) ∙ ap (λ x. failAt x 14) (sym (c .before .token-at .ensures)))
+returns-2 c = fails (value-many _ _ _ _ _ (got-read (got-with _ (c .before .before .before .before .before .constant-at .ensures)) (c .before .before .before .enum-told .given .1)) (c .before .before .if1 .taken) ∙ ap (λ x. failAt x 14) (sym (c .before .token-at .ensures))) (c .fail-at .ensures) tt
 
 returns-3 : tie.Need-returns-3
-returns-3 c = read-with (c .before .enum-told .given .1) (value-got _ _ _ _ _ (with-read (c .before .before .before .constant-at .ensures) (c .before .enum-told .given .1)) (c .if1 .left))
+returns-3 c = read (value-got _ _ _ _ _ (got-read (got-with _ (c .before .before .before .constant-at .ensures)) (c .before .enum-told .given .1)) (c .if1 .left)) (c .before .enum-told .given .1) refl
 
 pub initial-value-spec : {M : Type 1} → statement M
 initial-value-spec =

@@ -1,8 +1,9 @@
 -- `values::initials` meets its contract. Assumes nothing.
 use mathlib.Core.Path.{refl, _∙_}
 use native.Mathlib.Omega.{arith}
-use Rattle.declarations.specs.Reads.{Reads}
-use Rattle.declarations.proofs.Reading.{then-got, then-failed, came, failed-as, ended-by}
+use Rattle.cells.specs.Reads.Reads.{read, fails}
+use Rattle.cells.proofs.Laws.{then-got, then-failed}
+use Rattle.cells.proofs.Reading.{came, failed-as, ended-by}
 use Rattle.declarations.proofs.Arraying.{initials-none, initials-on, none-stored, padded-stored}
 use borrow.Author.Needs.{needs}
 use Rattle.declarations.proofs.values.initials.Statement.{statement}
@@ -18,7 +19,7 @@ same-length : tie.Need-same-length
 same-length c = search needs
 
 returns : tie.Need-returns
-returns c = Reads.read (initials-none _ _ _ _ (c .before .before .before .before .before .before .token-at .ensures) (c .before .before .before .before .if1 .taken)) refl (none-stored _ _ _ (c .before .before .fill .ensures))
+returns c = read (initials-none _ _ _ _ (c .before .before .before .before .before .before .token-at .ensures) (c .before .before .before .before .if1 .taken)) refl (none-stored _ _ _ (c .before .before .fill .ensures))
 
 values-requires : tie.Need-values-requires
 values-requires c κs = search needs
@@ -33,7 +34,7 @@ same-length-2 : tie.Need-same-length-2
 same-length-2 c = search needs
 
 returns-2 : tie.Need-returns-2
-returns-2 c = Reads.fails (initials-on _ _ _ _ (c .before .before .before .before .before .before .before .before .token-at .ensures) (c .before .before .before .before .before .before .if1 .left) ∙ then-failed _ (failed-as (c .before .before .before .before .values .ensures) (c .enum-told .given .1))) (c .enum-told .given .1)
+returns-2 c = fails (initials-on _ _ _ _ (c .before .before .before .before .before .before .before .before .token-at .ensures) (c .before .before .before .before .before .before .if1 .left) ∙ then-failed _ (failed-as (c .before .before .before .before .values .ensures) (c .enum-told .given .1))) (c .enum-told .given .1) tt
 
 cast-fill : tie.Need-cast-fill
 cast-fill c = search needs
@@ -42,12 +43,12 @@ add-fill : tie.Need-add-fill
 add-fill c =
     let r = came (c .before .before .before .before .before .before .values .ensures) (c .before .before .part .given .1) in
     let h = c .before .before .before .before .before .before .before .before .before .before .before .before .before .before .pre in
-    omega (arith, h, r .does .few)
+    omega (arith, h, r .holds .few)
 
 sub-fill : tie.Need-sub-fill
 sub-fill c =
     let r = came (c .before .before .before .before .before .before .values .ensures) (c .before .before .part .given .1) in
-    omega (arith, r .does .few)
+    omega (arith, r .holds .few)
 
 cast-fill-2 : tie.Need-cast-fill-2
 cast-fill-2 c = search needs
@@ -56,7 +57,7 @@ fill-requires-2 : tie.Need-fill-requires-2
 fill-requires-2 c κs =
     let r = came (c .before .before .before .before .before .before .values .ensures) (c .before .before .part .given .1) in
     let h = c .before .before .before .before .before .before .before .before .before .before .before .before .before .before .pre in
-    omega (arith, h, r .does .few)
+    omega (arith, h, r .holds .few)
 
 expect-requires : tie.Need-expect-requires
 expect-requires c κs = search needs
@@ -67,7 +68,7 @@ same-length-3 c = c .before .before .before .fill2 .kept .0 ∙ c .before .befor
 returns-3 : tie.Need-returns-3
 returns-3 c =
     let r = came (c .before .before .before .before .before .before .before .before .before .before .values .ensures) (c .before .before .before .before .before .before .part .given .1) in
-    ended-by _ _ (initials-on _ _ _ _ (c .before .before .before .before .before .before .before .before .before .before .before .before .before .before .token-at .ensures) (c .before .before .before .before .before .before .before .before .before .before .before .before .if1 .left) ∙ then-got _ (r .parsed)) (c .expect .ensures) (padded-stored _ _ _ _ _ (r .does .laid) (r .does .counted) (r .does .few) (c .before .before .before .fill2 .ensures))
+    ended-by _ _ (initials-on _ _ _ _ (c .before .before .before .before .before .before .before .before .before .before .before .before .before .before .token-at .ensures) (c .before .before .before .before .before .before .before .before .before .before .before .before .if1 .left) ∙ then-got _ (r .is)) (c .expect .ensures) (padded-stored _ _ _ _ _ (r .holds .laid) (r .holds .counted) (r .holds .few) (c .before .before .before .fill2 .ensures)) tt
 
 pub initials-spec : {M : Type 1} → statement M
 initials-spec =

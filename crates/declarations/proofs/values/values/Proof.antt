@@ -3,12 +3,13 @@ use mathlib.Core.Path.{_≡_, refl, _∙_}
 use mathlib.Core.List.{[]}
 use lib.ListN.{length}
 use native.Mathlib.Omega.{arith}
+use Rattle.declarations.proofs.Reading.{gives-read}
 use Rattle.source.specs.Kinds
 use Rattle.syntax.specs.Parse.{parted}
 use Rattle.syntax.specs.Declarations.{parseInitial}
 use Rattle.symbols.specs.Table.{heldBy}
 use Rattle.declarations.specs.Arrays.{Filled}
-use Rattle.declarations.proofs.Reading.{with-read, with-failed, Listing, list-first, list-failed, list-zero, list-last, list-next}
+use Rattle.cells.proofs.Reading.{Listing, list-first, list-failed, list-zero, list-last, list-next, failed-as}
 use Rattle.declarations.proofs.Arraying.{value-room, none-filled, value-next, value-fails}
 use borrow.Author.Needs.{needs}
 use Rattle.declarations.proofs.values.values.Statement.{statement}
@@ -38,19 +39,19 @@ same-length : tie.Need-same-length Inv-loop μ-loop
 same-length c = c .before .before .before .loop .inv .1
 
 returns : tie.Need-returns Inv-loop μ-loop
-returns c = let l = c .before .before .before .loop .inv in list-failed (l .0) (value-fails _ _ _ (l .0 .holds) (with-failed _ (c .before .before .initial-value .ensures) (c .enum-told .given .1)) (c .enum-told .given .1)) (c .enum-told .given .1)
+returns c = let l = c .before .before .before .loop .inv in list-failed (l .0) (value-fails _ _ _ (l .0 .holds) (failed-as (c .before .before .initial-value .ensures) (c .enum-told .given .1)) (c .enum-told .given .1)) (c .enum-told .given .1)
 
 cast-store : tie.Need-cast-store Inv-loop μ-loop
 cast-store c = search needs
 
 add-store : tie.Need-add-store Inv-loop μ-loop
-add-store c = let h = c .before .before .before .before .before .before .before .before .before .pre in let k = value-room _ _ _ _ _ (with-read (c .before .before .before .before .initial-value .ensures) (c .before .before .part .given .1)) in omega (arith, h, k)
+add-store c = let h = c .before .before .before .before .before .before .before .before .before .pre in let k = value-room _ _ _ _ _ (gives-read (c .before .before .before .before .initial-value .ensures) (c .before .before .part .given .1)) in omega (arith, h, k)
 
 store-requires : tie.Need-store-requires Inv-loop μ-loop
 store-requires c κs = search needs
 
 add-count : tie.Need-add-count Inv-loop μ-loop
-add-count c = let k = value-room _ _ _ _ _ (with-read (c .before .before .before .before .before .before .before .initial-value .ensures) (c .before .before .before .before .before .part .given .1)) in omega (arith, k)
+add-count c = let k = value-room _ _ _ _ _ (gives-read (c .before .before .before .before .before .before .before .initial-value .ensures) (c .before .before .before .before .before .part .given .1)) in omega (arith, k)
 
 token-at-requires : tie.Need-token-at-requires Inv-loop μ-loop
 token-at-requires c κs = search needs
@@ -61,7 +62,7 @@ same-length-2 c = c .before .before .before .before .store .kept .0 ∙ c .befor
 returns-2 : tie.Need-returns-2 Inv-loop μ-loop
 returns-2 c =
     let l = c .before .before .before .before .before .before .before .before .before .before .loop .inv in
-    let one = value-next _ _ _ (l .0 .holds) (with-read (c .before .before .before .before .before .before .before .before .before .initial-value .ensures) (c .before .before .before .before .before .before .before .part .given .1)) refl (c .before .before .before .before .store .ensures) in
+    let one = value-next _ _ _ (l .0 .holds) (gives-read (c .before .before .before .before .before .before .before .before .before .initial-value .ensures) (c .before .before .before .before .before .before .before .part .given .1)) refl (c .before .before .before .before .store .ensures) in
     list-zero (l .0) one refl (c .if1 .taken)
 
 same-length-3 : tie.Need-same-length-3 Inv-loop μ-loop
@@ -70,7 +71,7 @@ same-length-3 c = c .before .before .before .before .before .before .store .kept
 returns-3 : tie.Need-returns-3 Inv-loop μ-loop
 returns-3 c =
     let l = c .before .before .before .before .before .before .before .before .before .before .before .before .loop .inv in
-    let one = value-next _ _ _ (l .0 .holds) (with-read (c .before .before .before .before .before .before .before .before .before .before .before .initial-value .ensures) (c .before .before .before .before .before .before .before .before .before .part .given .1)) refl (c .before .before .before .before .before .before .store .ensures) in
+    let one = value-next _ _ _ (l .0 .holds) (gives-read (c .before .before .before .before .before .before .before .before .before .before .before .initial-value .ensures) (c .before .before .before .before .before .before .before .before .before .part .given .1)) refl (c .before .before .before .before .before .before .store .ensures) in
     list-last (l .0) one refl (c .before .before .before .token-at .ensures) (c .if2 .taken)
 
 sub-left : tie.Need-sub-left Inv-loop μ-loop
@@ -82,7 +83,7 @@ loop-less c = search needs
 loop-again : tie.Need-loop-again Inv-loop μ-loop
 loop-again c =
     let l = c .before .before .before .before .before .before .before .before .before .before .before .before .loop .inv in
-    let one = value-next _ _ _ (l .0 .holds) (with-read (c .before .before .before .before .before .before .before .before .before .before .before .initial-value .ensures) (c .before .before .before .before .before .before .before .before .before .part .given .1)) (c .before .before .before .before .before .before .before .before .before .part .given .1) (c .before .before .before .before .before .before .store .ensures) in
+    let one = value-next _ _ _ (l .0 .holds) (gives-read (c .before .before .before .before .before .before .before .before .before .before .before .initial-value .ensures) (c .before .before .before .before .before .before .before .before .before .part .given .1)) (c .before .before .before .before .before .before .before .before .before .part .given .1) (c .before .before .before .before .before .before .store .ensures) in
     (list-next (l .0) one (c .before .before .before .before .before .before .before .before .before .part .given .1) (c .before .before .before .token-at .ensures) (c .before .before .if1 .left) (c .if2 .left), c .before .before .before .before .before .before .store .kept .0 ∙ l .1)
 
 pub values-spec : {M : Type 1} → statement M

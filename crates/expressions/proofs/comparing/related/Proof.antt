@@ -1,6 +1,7 @@
 -- `comparing::related` meets its contract. Assumes nothing.
 use mathlib.Core.Path.{sym}
-use Rattle.expressions.proofs.Laws.{parsed-as}
+use Rattle.cells.proofs.Laws.{got-with}
+use Rattle.cells.proofs.Reading.{reads-on}
 use Rattle.expressions.proofs.Comparisons.{related-failed, related-read}
 use borrow.Author.Needs.{needs}
 use Rattle.expressions.proofs.comparing.related.Statement.{statement}
@@ -22,7 +23,7 @@ same-length : tie.Need-same-length
 same-length c = search needs
 
 returns : tie.Need-returns
-returns c = related-failed (parsed-as (c .before .before .before .before .before .emit-read .ensures) (sym (c .before .before .before .before .before .before .before .lone-cell-at .ensures))) (c .enum-told2 .given .1)
+returns c = related-failed (reads-on (sym (got-with _ (c .before .before .before .before .before .before .before .lone-cell-at .ensures))) (c .before .before .before .before .before .emit-read .ensures)) (c .enum-told2 .given .1)
 
 emit-relation-requires : tie.Need-emit-relation-requires
 emit-relation-requires c κs = search needs
@@ -31,7 +32,7 @@ same-length-2 : tie.Need-same-length-2
 same-length-2 c = search needs
 
 returns-2 : tie.Need-returns-2
-returns-2 c = related-read (parsed-as (c .before .before .before .before .before .before .before .before .before .before .emit-read .ensures) (sym (c .before .before .before .before .before .before .before .before .before .before .before .before .lone-cell-at .ensures))) (c .before .before .before .before .before .enum-told .given .1) (c .before .before .before .emit-relation .ensures)
+returns-2 c = related-read (reads-on (sym (got-with _ (c .before .before .before .before .before .before .before .before .before .before .before .before .lone-cell-at .ensures))) (c .before .before .before .before .before .before .before .before .before .before .emit-read .ensures)) (c .before .before .before .before .before .enum-told .given .1) (c .before .before .before .emit-relation .ensures)
 
 pub related-spec : {M : Type 1} → statement M
 related-spec =

@@ -1,6 +1,7 @@
 -- `operators::operation` meets its contract. Assumes nothing.
 use mathlib.Core.Path.{sym, _∙_}
-use Rattle.expressions.proofs.Laws.{parsed-as}
+use Rattle.cells.proofs.Laws.{got-with}
+use Rattle.cells.proofs.Reading.{reads-on}
 use Rattle.expressions.proofs.Comparisons.{none-left}
 use Rattle.expressions.proofs.Turns.{binary-turn, shift-turn, no-turn}
 use borrow.Author.Needs.{needs}
@@ -23,7 +24,7 @@ same-length : tie.Need-same-length
 same-length c = search needs
 
 returns : tie.Need-returns
-returns c = binary-turn _ _ _ _ (c .before .before .before .before .before .before .operator .ensures) (c .before .before .before .before .before .if1 .taken) (parsed-as (c .before .before .emit-read .ensures) (sym (c .before .before .before .before .cell-at .ensures)))
+returns c = binary-turn _ _ _ _ (c .before .before .before .before .before .before .operator .ensures) (c .before .before .before .before .before .if1 .taken) (reads-on (sym (got-with _ (c .before .before .before .before .cell-at .ensures))) (c .before .before .emit-read .ensures))
 
 shift-word-requires : tie.Need-shift-word-requires
 shift-word-requires c κs = search needs

@@ -1,14 +1,13 @@
 -- `operators::operations` meets its contract. Assumes nothing.
-use mathlib.Core.Path.{_≡_, refl, sym, _∙_}
+use mathlib.Core.Path.{_≡_, refl, _∙_}
 use Prim.Native.Nat.{ℕ, _-_}
 use mathlib.Core.List.{List, []}
 use native.Mathlib.Omega.{arith}
 use borrow.Author.Needs.{needs}
 use lib.ListN.{length}
 use borrow.Author.Tests.{not-true, not-false}
-use Rattle.syntax.specs.Tree.{Operation}
 use Rattle.syntax.specs.Emission.{operationsWords}
-use Rattle.syntax.specs.Parse.{repeatBy, repeat, snoc}
+use Rattle.syntax.specs.Parse.{repeat}
 use Rattle.syntax.specs.Expressions.{parseOperations}
 use Rattle.symbols.specs.Table.{heldBy}
 use Rattle.emitter.specs.declared.Context.{Context}
@@ -16,18 +15,15 @@ use Rattle.emitter.specs.declared.Output.{Output}
 use Rattle.emitter.specs.Emitted.{emittedBy, basesOf}
 use Rattle.emitter.specs.Lays.{Lays}
 use Rattle.emitter.proofs.Lays.{nothing}
-use Rattle.expressions.specs.Compiles.{Compiles}
-use Rattle.cells.proofs.Laws.{then-got, then-failed}
-use Rattle.expressions.proofs.Laws.{came, failed-as}
-use Rattle.expressions.proofs.Turns.{more, turn-one, turn-last, ended, stops, goes-on, one-operation}
+use Rattle.cells.proofs.Reading.{Turning, turn-zero, turn-none, turn-failed, turn-next}
+use Rattle.expressions.proofs.Turns.{more, turn-one, turn-last, more-none, more-some, after-others}
 use Rattle.expressions.proofs.operators.operations.Statement.{statement}
 use Rattle.expressions.proofs.operators.operations.Tie as tie
 
--- so many turns are left, and so many operations are done
+-- what is left of the source after the operations that are done, whose words are emitted
 record Inv (source table image₀ : List ℕ) (context : Context) (at : ℕ) (held₀ : Output) (image : List ℕ) (i : ℕ) (held : Output) (k : ℕ) : Type 0 where
-  done : List Operation
-  same : repeatBy (more source (heldBy (context .names) table)) k done i ≡ parseOperations source (heldBy (context .names) table) at
-  lays : Lays (basesOf context) (emittedBy held₀ image₀) (emittedBy held image) (λ _. operationsWords done)
+  turning : Turning (more source (heldBy (context .names) table)) (parseOperations source (heldBy (context .names) table) at)
+      (λ os. Lays (basesOf context) (emittedBy held₀ image₀) (emittedBy held image) (λ _. operationsWords os)) i k
   long : length image ≡ length image₀
 
 abbrev Inv-loop : tie.InvT-loop
@@ -38,7 +34,7 @@ abbrev μ-loop : tie.MeasureT-loop
 
 loop-holds : tie.Need-loop-holds Inv-loop μ-loop
 unfolding parseOperations repeat operationsWords
-loop-holds c = record { done = []; same = refl; lays = nothing; long = refl }
+loop-holds c = record { turning = record { done = []; same = refl; holds = nothing }; long = refl }
 
 sub-k : tie.Need-sub-k Inv-loop μ-loop
 sub-k c = search needs
@@ -56,7 +52,7 @@ returns : tie.Need-returns Inv-loop μ-loop
 returns c =
     let l = c .before .before .before .before .before .before .before .before .before .before .loop .inv in
     let q = turn-last (c .before .before .before .before .before .before .operation .ensures) (not-true _ (c .if1 .taken)) in
-    Compiles.read (sym (l .same) ∙ stops _ _ (l .done) _ _ (c .before .before .before .before .before .before .before .before .operator-at .ensures) _ (q .0)) refl (rw (q .1) (l .lays))
+    rw (q .1) (turn-none (l .turning) (more-none _ _ (l .turning .done) _ (c .before .before .before .before .before .before .before .before .operator-at .ensures) (q .0)))
 
 enum-known-part : tie.Need-enum-known-part Inv-loop μ-loop
 enum-known-part c = search needs
@@ -71,7 +67,9 @@ returns-2 : tie.Need-returns-2 Inv-loop μ-loop
 returns-2 c =
     let l = c .before .before .before .before .before .before .before .before .before .before .before .before .loop .inv in
     let q = turn-one (c .before .before .before .before .before .before .before .before .operation .ensures) (not-false _ (c .before .before .if1 .left)) in
-    Compiles.fails (sym (l .same) ∙ goes-on _ _ (l .done) _ _ (c .before .before .before .before .before .before .before .before .before .before .operator-at .ensures) _ (c .before .before .before .before .before .before .before .before .before .before .before .loop-test .taken) (q .is) ∙ then-failed _ (failed-as (q .compiles) (c .enum-told .given .1))) (c .enum-told .given .1)
+    let os = l .turning .done in
+    turn-failed (l .turning) (λ z. omega (arith, z, c .before .before .before .before .before .before .before .before .before .before .before .loop-test .taken))
+    (more-some _ _ os _ (c .before .before .before .before .before .before .before .before .before .before .operator-at .ensures) (q .is)) (after-others _ _ os (l .turning .holds) (q .compiles)) (c .enum-told .given .1)
 
 loop-less : tie.Need-loop-less Inv-loop μ-loop
 loop-less c = omega (arith, c .before .before .before .before .before .before .before .before .before .before .before .before .loop-test .taken)
@@ -80,11 +78,10 @@ loop-again : tie.Need-loop-again Inv-loop μ-loop
 loop-again c =
     let l = c .before .before .before .before .before .before .before .before .before .before .before .before .before .loop .inv in
     let q = turn-one (c .before .before .before .before .before .before .before .before .before .operation .ensures) (not-false _ (c .before .before .before .if1 .left)) in
-    let o = came (q .compiles) (c .before .part .given .1) in
+    let os = l .turning .done in
     record {
-      done = snoc (l .done) (o .tree);
-      same = sym (goes-on _ _ (l .done) _ _ (c .before .before .before .before .before .before .before .before .before .before .before .operator-at .ensures) _ (c .before .before .before .before .before .before .before .before .before .before .before .before .loop-test .taken) (q .is) ∙ then-got _ (o .is)) ∙ l .same;
-      lays = one-operation (l .done) (o .tree) (l .lays) (o .lays);
+      turning = turn-next (l .turning) (λ z. omega (arith, z, c .before .before .before .before .before .before .before .before .before .before .before .before .loop-test .taken))
+          (more-some _ _ os _ (c .before .before .before .before .before .before .before .before .before .before .before .operator-at .ensures) (q .is)) (after-others _ _ os (l .turning .holds) (q .compiles)) (c .before .part .given .1);
       long = c .before .before .before .before .before .before .before .before .image .given ∙ l .long;
     }
 
@@ -93,8 +90,7 @@ same-length-3 c = c .before .loop .inv .long
 
 returns-3 : tie.Need-returns-3 Inv-loop μ-loop
 returns-3 c =
-    let l = c .before .loop .inv in
-    Compiles.read (sym (l .same) ∙ ended _ _ _ _ _ (c .loop-test .left)) refl (l .lays)
+    turn-zero (c .before .loop .inv .turning) (omega (arith, c .loop-test .left))
 
 pub operations-spec : {M : Type 1} → statement M
 operations-spec =

@@ -1,7 +1,8 @@
 -- `operators::shifted` meets its contract. Assumes nothing.
 use mathlib.Core.Path.{refl}
-use Rattle.expressions.specs.Compiles.{Compiles}
-use Rattle.cells.proofs.Laws.{got-read, got-failed}
+use Rattle.cells.specs.Reads.Reads.{read, fails}
+use Rattle.emitter.proofs.Lays.{kept-here}
+use Rattle.cells.proofs.Laws.{got-read, got-failed, got-with}
 use Rattle.expressions.proofs.Leaves.{shift}
 use borrow.Author.Needs.{needs}
 use Rattle.expressions.proofs.operators.shifted.Statement.{statement}
@@ -17,7 +18,7 @@ enum-told : tie.Need-enum-told
 enum-told c = search needs
 
 returns : tie.Need-returns
-returns c = Compiles.fails (got-failed _ (c .before .before .amount-at .ensures) (c .enum-told .given .1)) (c .enum-told .given .1)
+returns c = fails (got-failed _ (got-with _ (c .before .before .amount-at .ensures)) (c .enum-told .given .1)) (c .enum-told .given .1) kept-here
 
 emit-shift-requires : tie.Need-emit-shift-requires
 emit-shift-requires c κs = search needs
@@ -26,7 +27,7 @@ same-length : tie.Need-same-length
 same-length c = search needs
 
 returns-2 : tie.Need-returns-2
-returns-2 c = Compiles.read (got-read (c .before .before .before .before .before .before .before .amount-at .ensures) (c .before .before .before .before .before .part .given .1)) refl (shift _ _ _ (c .before .before .emit-shift .ensures))
+returns-2 c = read (got-read (got-with _ (c .before .before .before .before .before .before .before .amount-at .ensures)) (c .before .before .before .before .before .part .given .1)) refl (shift _ _ _ (c .before .before .emit-shift .ensures .emitted))
 
 pub shifted-spec : {M : Type 1} → statement M
 shifted-spec =

@@ -1,4 +1,5 @@
 -- `relation::emit_at_most` meets its contract. Assumes nothing.
+use Rattle.expressions.proofs.Leaves.{hole-later}
 use Rattle.expressions.proofs.Relations.{at-most}
 use borrow.Author.Needs.{needs}
 use Rattle.expressions.proofs.relation.emit_at_most.Statement.{statement}
@@ -14,7 +15,7 @@ same-length : tie.Need-same-length
 same-length c = search needs
 
 returns : tie.Need-returns
-returns c = at-most (c .before .before .before .before .before .before .before .emit-hole .ensures) (c .before .before .emit-generic .ensures)
+returns c = at-most (hole-later (c .before .before .before .before .before .before .before .emit-hole .ensures)) (c .before .before .emit-generic .ensures .emitted)
 
 pub emit-at-most-spec : {M : Type 1} → statement M
 emit-at-most-spec =

@@ -1,4 +1,5 @@
 -- `relation::emit_greater` meets its contract. Assumes nothing.
+use Rattle.expressions.proofs.Leaves.{hole-later}
 use Rattle.expressions.proofs.Relations.{greater}
 use borrow.Author.Needs.{needs}
 use Rattle.expressions.proofs.relation.emit_greater.Statement.{statement}
@@ -20,7 +21,7 @@ same-length : tie.Need-same-length
 same-length c = search needs
 
 returns : tie.Need-returns
-returns c = greater (c .before .before .before .before .before .before .before .before .before .before .before .before .before .before .before .before .emit-hole .ensures) (c .before .before .before .before .before .before .before .before .before .before .before .emit-generic .ensures) (c .before .before .before .before .before .before .before .emit-hole2 .ensures) (c .before .before .fill-jump .ensures)
+returns c = greater (hole-later (c .before .before .before .before .before .before .before .before .before .before .before .before .before .before .before .before .emit-hole .ensures)) (c .before .before .before .before .before .before .before .before .before .before .before .emit-generic .ensures .emitted) (hole-later (c .before .before .before .before .before .before .before .emit-hole2 .ensures)) (c .before .before .fill-jump .ensures)
 
 pub emit-greater-spec : {M : Type 1} → statement M
 emit-greater-spec =

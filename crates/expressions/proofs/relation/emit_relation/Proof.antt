@@ -50,7 +50,7 @@ same-length-5 : tie.Need-same-length-5
 same-length-5 c = search needs
 
 returns-5 : tie.Need-returns-5
-returns-5 c = same-kind (c .before .before .before .before .before .before .before .before .if5 .taken) (equal (c .before .before .before .before .before .before .emit-generic .ensures) (c .before .before .emit-test3 .ensures))
+returns-5 c = same-kind (c .before .before .before .before .before .before .before .before .if5 .taken) (equal (c .before .before .before .before .before .before .emit-generic .ensures .emitted) (c .before .before .emit-test3 .ensures))
 
 emit-generic-requires-2 : tie.Need-emit-generic-requires-2
 emit-generic-requires-2 c κs = search needs
@@ -62,7 +62,7 @@ same-length-6 : tie.Need-same-length-6
 same-length-6 c = search needs
 
 returns-6 : tie.Need-returns-6
-returns-6 c = last-kind (c .before .before .before .before .before .before .before .before .if5 .left) (c .before .before .before .before .before .before .before .before .before .before .if3 .left) (c .before .before .before .before .before .before .before .before .before .if4 .left) (c .before .before .before .before .before .before .before .before .before .before .before .before .if1 .left) (c .before .before .before .before .before .before .before .before .before .before .before .if2 .left) (at-least (c .before .before .before .before .before .before .emit-generic2 .ensures) (c .before .before .emit-test4 .ensures))
+returns-6 c = last-kind (c .before .before .before .before .before .before .before .before .if5 .left) (c .before .before .before .before .before .before .before .before .before .before .if3 .left) (c .before .before .before .before .before .before .before .before .before .if4 .left) (c .before .before .before .before .before .before .before .before .before .before .before .before .if1 .left) (c .before .before .before .before .before .before .before .before .before .before .before .if2 .left) (at-least (c .before .before .before .before .before .before .emit-generic2 .ensures .emitted) (c .before .before .emit-test4 .ensures))
 
 pub emit-relation-spec : {M : Type 1} → statement M
 emit-relation-spec =

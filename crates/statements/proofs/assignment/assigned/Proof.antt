@@ -1,7 +1,10 @@
 -- `assignment::assigned` meets its contract. Assumes nothing.
 use Rattle.statements.specs.Forms.{afterEqual}
-use Rattle.cells.proofs.Laws.{part-read, part-failed}
-use Rattle.statements.proofs.Laws.{failing, from-got}
+use mathlib.Core.Path.{refl}
+use Rattle.cells.proofs.Laws.{part-read}
+use Rattle.cells.proofs.Reading.{missing}
+use Rattle.emitter.proofs.Lays.{kept-here}
+use Rattle.statements.proofs.Laws.{from-got}
 use borrow.Author.Needs.{needs}
 use Rattle.statements.proofs.assignment.assigned.Statement.{statement}
 use Rattle.statements.proofs.assignment.assigned.Tie as tie
@@ -17,7 +20,7 @@ enum-told c = search needs
 
 returns : tie.Need-returns
 unfolding afterEqual
-returns c = failing _ (part-failed _ (c .before .before .expect .ensures) (c .enum-told .given .1)) (c .enum-told .given .1)
+returns c = missing _ _ (c .before .before .expect .ensures) (c .enum-told .given .1) refl kept-here
 
 expression-requires : tie.Need-expression-requires
 expression-requires c κs = search needs

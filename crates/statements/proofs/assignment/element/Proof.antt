@@ -1,9 +1,11 @@
 -- `assignment::element` meets its contract. Assumes nothing.
 use Rattle.syntax.specs.Statements.{parseElement}
 use Rattle.syntax.specs.Emission.{targetCell}
-use Rattle.operands.specs.Trees.{treeCell}
-use Rattle.cells.proofs.Laws.{got-read, got-failed}
-use Rattle.statements.proofs.Laws.{failing, from-got}
+use Rattle.symbols.specs.Trees.{treeCell}
+use Rattle.cells.specs.Reads.Reads.{fails}
+use Rattle.cells.proofs.Laws.{then-failed, got-read, got-failed, got-with}
+use Rattle.emitter.proofs.Lays.{kept-here}
+use Rattle.statements.proofs.Laws.{from-got}
 use Rattle.statements.proofs.Assigns.{stored-as}
 use borrow.Author.Needs.{needs}
 use Rattle.statements.proofs.assignment.element.Statement.{statement}
@@ -20,7 +22,7 @@ enum-told c = search needs
 
 returns : tie.Need-returns
 unfolding parseElement
-returns c = failing _ (got-failed _ (c .before .before .subscript-at .ensures) (c .enum-told .given .1)) (c .enum-told .given .1)
+returns c = fails (then-failed _ (got-failed _ (got-with _ (c .before .before .subscript-at .ensures)) (c .enum-told .given .1))) (c .enum-told .given .1) kept-here
 
 store-requires : tie.Need-store-requires
 store-requires c κs = search needs
@@ -32,7 +34,7 @@ returns-2 : tie.Need-returns-2
 unfolding parseElement treeCell targetCell
 returns-2 c =
     let known = c .before .before .before .before .before in
-    from-got _ (got-read (known .before .before .subscript-at .ensures) (known .part .given .1)) (stored-as _ _ _ _ _ (c .before .before .store .ensures))
+    from-got _ (got-read (got-with _ (known .before .before .subscript-at .ensures)) (known .part .given .1)) (stored-as _ _ _ _ _ (c .before .before .store .ensures))
 
 pub element-spec : {M : Type 1} → statement M
 element-spec =

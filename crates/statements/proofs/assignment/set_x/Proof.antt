@@ -1,8 +1,11 @@
 -- `assignment::set_x` meets its contract. Assumes nothing.
-use Rattle.expressions.specs.Compiles.{Compiles}
+use mathlib.Core.Path.{refl}
+use Rattle.cells.specs.Reads.Reads.{read, fails}
 use Rattle.statements.specs.Forms.{afterEqual, loadedWords}
-use Rattle.cells.proofs.Laws.{got-read, got-failed, part-read, part-failed}
-use Rattle.statements.proofs.Laws.{failing, from-got, just-words}
+use Rattle.cells.proofs.Laws.{got-read, got-failed, part-read, got-with}
+use Rattle.cells.proofs.Reading.{missing}
+use Rattle.emitter.proofs.Lays.{kept-here}
+use Rattle.statements.proofs.Laws.{from-got, just-words}
 use borrow.Author.Needs.{needs}
 use Rattle.statements.proofs.assignment.set_x.Statement.{statement}
 use Rattle.statements.proofs.assignment.set_x.Tie as tie
@@ -18,7 +21,7 @@ enum-told c = search needs
 
 returns : tie.Need-returns
 unfolding afterEqual
-returns c = failing _ (part-failed _ (c .before .before .expect .ensures) (c .enum-told .given .1)) (c .enum-told .given .1)
+returns c = missing _ _ (c .before .before .expect .ensures) (c .enum-told .given .1) refl kept-here
 
 lone-cell-at-requires : tie.Need-lone-cell-at-requires
 lone-cell-at-requires c κs = search needs
@@ -34,7 +37,7 @@ unfolding afterEqual
 returns-2 c =
     let equal = part-read _ (c .before .before .before .before .before .before .expect .ensures) (c .before .before .before .before .part .given .1) in
     let e = c .enum-told3 .given .1 in
-    from-got _ (equal .is) (Compiles.fails (got-failed _ (c .before .before .lone-cell-at .ensures) e) e)
+    from-got _ (equal .is) (fails (got-failed _ (got-with _ (c .before .before .lone-cell-at .ensures)) e) e kept-here)
 
 emit-cell-requires : tie.Need-emit-cell-requires
 emit-cell-requires c κs = search needs
@@ -47,7 +50,7 @@ unfolding afterEqual loadedWords
 returns-3 c =
     let equal = part-read _ (c .before .before .before .before .before .before .before .before .before .before .expect .ensures) (c .before .before .before .before .before .before .before .before .part .given .1) in
     let e = c .before .before .before .before .enum-told2 .given .1 in
-    from-got _ (equal .is) (Compiles.read (got-read (c .before .before .before .before .before .before .lone-cell-at .ensures) e) e (just-words _ (c .before .before .emit-cell .ensures)))
+    from-got _ (equal .is) (read (got-read (got-with _ (c .before .before .before .before .before .before .lone-cell-at .ensures)) e) e (just-words _ (c .before .before .emit-cell .ensures .emitted)))
 
 pub set-x-spec : {M : Type 1} → statement M
 set-x-spec =

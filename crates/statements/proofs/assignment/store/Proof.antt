@@ -1,7 +1,8 @@
 -- `assignment::store` meets its contract. Assumes nothing.
-use Rattle.expressions.specs.Compiles.{Compiles}
+use Rattle.cells.specs.Reads.Reads.{read, fails}
+use Rattle.cells.proofs.Reading.{came, failed-as, kept-as}
 use Rattle.statements.specs.Forms.{storedWords}
-use Rattle.statements.proofs.Laws.{compiled, came, pass, then-words}
+use Rattle.statements.proofs.Laws.{then-words}
 use borrow.Author.Needs.{needs}
 use Rattle.statements.proofs.assignment.store.Statement.{statement}
 use Rattle.statements.proofs.assignment.store.Tie as tie
@@ -20,8 +21,9 @@ same-length c = search needs
 
 returns : tie.Need-returns
 returns c =
+    let r = c .before .before .before .before .assigned .ensures in
     let e = c .enum-told2 .given .1 in
-    Compiles.fails (pass (compiled (c .before .before .before .before .assigned .ensures)) e) e
+    fails (failed-as r e) e (kept-as r e)
 
 emit-cell-requires : tie.Need-emit-cell-requires
 emit-cell-requires c κs = search needs
@@ -33,8 +35,8 @@ returns-2 : tie.Need-returns-2
 unfolding storedWords
 returns-2 c =
     let e = c .before .before .before .before .before .enum-told .given .1 in
-    let x = came (compiled (c .before .before .before .before .before .before .before .before .before .assigned .ensures)) e in
-    Compiles.read (x .is) e (then-words _ (x .holds) (c .before .before .emit-cell .ensures))
+    let x = came (c .before .before .before .before .before .before .before .before .before .assigned .ensures) e in
+    read (x .is) e (then-words _ (x .holds) (c .before .before .emit-cell .ensures .emitted))
 
 pub store-spec : {M : Type 1} → statement M
 store-spec =

@@ -1,7 +1,7 @@
 -- `counting::for_head` meets its contract. Assumes nothing.
 use mathlib.Core.Path.{refl}
 use Rattle.syntax.specs.Tree.{Id}
-use Rattle.operands.specs.Trees.{treeId, treeOperand, treeCell}
+use Rattle.symbols.specs.Trees.{treeId, treeOperand, treeCell}
 use Rattle.statements.specs.Forms.{Head, counterOf, headWords}
 use Rattle.statements.proofs.Loops.{head-hash, head-integer, head-refused, heads, no-head}
 use borrow.Author.Needs.{needs}

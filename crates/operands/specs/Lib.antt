@@ -1,2 +1,0 @@
--- What the code's cells stand for.
-pub mod Trees
