@@ -23,7 +23,8 @@ pub fn emit_hole(image: &mut [u16], output: Output) -> Jumping
 
 // A single test, by its slot.
 pub(crate) fn emit_test(image: &mut [u16], output: Output, slot: usize) -> Jumping
-    ensures { λ r. ⌜ AlwaysHoled (emittedBy output (now (image .entry))) (emittedBy (r .output) (now (image .exit))) (λ at z. Sym.generic slot ∷ Sym.jump z ∷ []) (r .hole) ⌝ }
+    ensures { λ r. ⌜ AlwaysHoled (emittedBy output (now (image .entry))) (emittedBy (r .output) (now (image .exit)))
+        (λ at z. Sym.generic slot ∷ Sym.jump z ∷ []) (r .hole) ⌝ }
 {
     let more = emit_generic(image, output, slot);
     emit_hole(image, more)
