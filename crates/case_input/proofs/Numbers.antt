@@ -1,4 +1,4 @@
--- A number, byte by byte. Assumes nothing.
+-- A number, byte by byte.
 use Prim.Native.Nat.{ℕ, _+_, _≤_, _<_}
 use mathlib.Core.Path.{_≡_}
 use mathlib.Core.Bool.{true, false}

@@ -1,4 +1,4 @@
--- Numbers and parts of a text of stored cases. Assumes nothing.
+-- Numbers and parts of a text of stored cases.
 use Prim.Native.Nat.{ℕ, suc, _+_, _-_, _*_, _%_}
 use mathlib.Core.Bool.{Bool, cond}
 use mathlib.Core.List.{List, [], _∷_}

@@ -1,5 +1,4 @@
 -- What the proofs of several crates use.
-pub mod Laws
-pub mod Reading
-pub mod Names
-pub mod Starts
+pub mod ConstantLaws
+pub mod StartNames
+pub mod StartLaws

@@ -1,14 +1,14 @@
--- Parts of the definitions that a function of its own reads. Assumes nothing.
-use Rattle.source.specs.Bytes.{given}
+-- Parts of the definitions that a function of its own reads.
+use Rattle.prelude.specs.Choice.{given}
 use Rattle.source.specs.declared.Token.{Token}
-use Rattle.syntax.specs.Tree.{Operand}
-use Rattle.syntax.specs.Symbols.{Symbol, asOperand, asArray, asFunction}
-use Rattle.syntax.specs.Parse.{Got, andThen}
-use Rattle.syntax.specs.Parse.Got.{got}
-use Rattle.syntax.specs.Words.{asOneOf}
-use Rattle.syntax.specs.Cells.{CellStart, refuse}
-use Rattle.syntax.specs.Expressions.{TermStart}
-use Rattle.syntax.specs.Statements.{StmtStart, openings}
+use Rattle.tree.specs.Tree.{Operand}
+use Rattle.tree.specs.Symbols.{Symbol, asOperand, asArray, asFunction}
+use Rattle.grammar.specs.Parse.{Got, andThen}
+use Rattle.grammar.specs.Parse.Got.{got}
+use Rattle.grammar.specs.Vocabulary.{asOneOf}
+use Rattle.grammar.specs.Cells.{CellStart, refuse}
+use Rattle.grammar.specs.Expressions.{TermStart}
+use Rattle.grammar.specs.Statements.{StmtStart, statementStarts}
 
 -- `operandOf`, `cellStart` and the end of `termStart`, by what a token stands for
 module _ (symbol : Symbol) (t : Token) where
@@ -27,4 +27,4 @@ module _ (symbol : Symbol) (t : Token) where
 
 -- the end of `stmtStart`: a statement that begins with no name
 unfoldable pub opening : Token → Got StmtStart
-opening t = asOneOf openings t (λ start. got start (t .next)) (λ _. refuse t)
+opening t = asOneOf statementStarts t (λ start. got start (t .next)) (λ _. refuse t)

@@ -1,20 +1,20 @@
 // Operands, subscripts and cells.
 ghost use mathlib.Core.Path.{_≡_};
 ghost use Rattle.source.specs.Tokens.{tokenAt};
-ghost use Rattle.syntax.specs.Cells.{subscriptOf, parseSubscript, cellFrom, parseCell, parseLoneCell};
-ghost use Rattle.syntax.specs.Tree as tree;
-ghost use Rattle.syntax.specs.Cells as cells;
-ghost use Rattle.symbols.specs.Table.{heldBy};
+ghost use Rattle.grammar.specs.Cells.{subscriptOf, parseSubscript, cellFrom, parseCell, parseLoneCell};
+ghost use Rattle.tree.specs.Tree as tree;
+ghost use Rattle.grammar.specs.Cells as cells;
+ghost use Rattle.symbols.specs.Table.{liveNames};
 ghost use Rattle.symbols.specs.Trees.{treeOperand, treeSubscript, treeCell, treeSymbol};
 ghost use Rattle.cells.specs.Starts.{operandBy, cellBy};
-ghost use Rattle.cells.specs.Answers.{answerOf, noOperand, noCell, treeCellStart};
+ghost use Rattle.parser.specs.Answers.{readOr};
+ghost use Rattle.cells.specs.Answers.{noOperand, noCell, treeCellStart};
 use crate::CellStart;
-use crate::Part;
-use crate::expect;
-use crate::fail_at;
-use crate::failures;
-use crate::refused;
-use crate::symbol_of;
+use parser::Part;
+use parser::expect;
+use parser::fail_at;
+use parser::failures;
+use parser::refused;
 use source::Token;
 use source::kind;
 use source::operator_at;
@@ -23,6 +23,7 @@ use symbols::Cell;
 use symbols::Operand;
 use symbols::Subscript;
 use symbols::Symbol;
+use symbols::lookup::lookup;
 
 struct OperandAnswer {
     part: Part,
@@ -62,7 +63,7 @@ fn no_cell() -> Cell
 
 // A token as an operand, by what it stands for.
 fn operand_of(t: Token, symbol: Symbol) -> OperandAnswer
-    ensures { λ r. ⌜ (r .part, treeOperand (r .operand)) ≡ answerOf noOperand (operandBy (treeSymbol symbol) t) ⌝ }
+    ensures { λ r. ⌜ (r .part, treeOperand (r .operand)) ≡ readOr noOperand (operandBy (treeSymbol symbol) t) ⌝ }
 {
     let part = Part::Read { next: t.next };
     match symbol {
@@ -88,7 +89,7 @@ fn operand_of(t: Token, symbol: Symbol) -> OperandAnswer
 // A subscript between its brackets.
 fn inner_subscript_at(source: &[u8], table: &[u16], names: usize, at: usize) -> SubscriptAnswer
     ensures { λ r. ⌜ (r .part, treeSubscript (r .subscript))
-        ≡ answerOf tree.Subscript.hash (subscriptOf (now (source .entry)) (heldBy names (now (table .entry))) (tokenAt (now (source .entry)) at)) ⌝ }
+        ≡ readOr tree.Subscript.hash (subscriptOf (now (source .entry)) (liveNames names (now (table .entry))) (tokenAt (now (source .entry)) at)) ⌝ }
 {
     let t = token_at(source, at);
     if t.kind == kind::HASH {
@@ -97,7 +98,7 @@ fn inner_subscript_at(source: &[u8], table: &[u16], names: usize, at: usize) -> 
             subscript: Subscript::Hash,
         };
     }
-    let read = operand_of(t, symbol_of(source, table, names, t));
+    let read = operand_of(t, lookup(source, table, names, t));
     let part = read.part;
     let Part::Read { next: _ } = part else {
         return SubscriptAnswer {
@@ -115,7 +116,7 @@ fn inner_subscript_at(source: &[u8], table: &[u16], names: usize, at: usize) -> 
 // A subscript in its brackets.
 pub fn subscript_at(source: &[u8], table: &[u16], names: usize, at: usize) -> SubscriptAnswer
     ensures { λ r. ⌜ (r .part, treeSubscript (r .subscript))
-        ≡ answerOf tree.Subscript.hash (parseSubscript (now (source .entry)) (heldBy names (now (table .entry))) at) ⌝ }
+        ≡ readOr tree.Subscript.hash (parseSubscript (now (source .entry)) (liveNames names (now (table .entry))) at) ⌝ }
 {
     let part = expect(source, kind::LEFT_BRACKET, at);
     let Part::Read { next: inner } = part else {
@@ -142,7 +143,7 @@ pub fn subscript_at(source: &[u8], table: &[u16], names: usize, at: usize) -> Su
 
 // A cell's first token, by what it stands for.
 pub(crate) fn cell_start_of(t: Token, symbol: Symbol) -> CellStartAnswer
-    ensures { λ r. ⌜ (r .part, treeCellStart (r .start)) ≡ answerOf (cells.CellStart.operand noOperand) (cellBy (treeSymbol symbol) t) ⌝ }
+    ensures { λ r. ⌜ (r .part, treeCellStart (r .start)) ≡ readOr (cells.CellStart.operand noOperand) (cellBy (treeSymbol symbol) t) ⌝ }
 {
     let Symbol::Array { array } = symbol else {
         let read = operand_of(t, symbol);
@@ -176,7 +177,7 @@ pub fn cell_from(
     at: usize,
 ) -> CellAnswer
     ensures { λ r. ⌜ (r .part, treeCell (r .cell))
-        ≡ answerOf noCell (cellFrom (now (source .entry)) (heldBy names (now (table .entry))) (treeCellStart start) at) ⌝ }
+        ≡ readOr noCell (cellFrom (now (source .entry)) (liveNames names (now (table .entry))) (treeCellStart start) at) ⌝ }
 {
     match start {
         CellStart::Whole { operand } => CellAnswer {
@@ -202,10 +203,10 @@ pub fn cell_from(
 }
 
 pub fn cell_at(source: &[u8], table: &[u16], names: usize, at: usize) -> CellAnswer
-    ensures { λ r. ⌜ (r .part, treeCell (r .cell)) ≡ answerOf noCell (parseCell (now (source .entry)) (heldBy names (now (table .entry))) at) ⌝ }
+    ensures { λ r. ⌜ (r .part, treeCell (r .cell)) ≡ readOr noCell (parseCell (now (source .entry)) (liveNames names (now (table .entry))) at) ⌝ }
 {
     let t = token_at(source, at);
-    let read = cell_start_of(t, symbol_of(source, table, names, t));
+    let read = cell_start_of(t, lookup(source, table, names, t));
     let part = read.part;
     let start = read.start;
     let Part::Read { next } = part else {
@@ -219,7 +220,7 @@ pub fn cell_at(source: &[u8], table: &[u16], names: usize, at: usize) -> CellAns
 
 // A cell after which no operation may stand.
 pub fn lone_cell_at(source: &[u8], table: &[u16], names: usize, at: usize) -> CellAnswer
-    ensures { λ r. ⌜ (r .part, treeCell (r .cell)) ≡ answerOf noCell (parseLoneCell (now (source .entry)) (heldBy names (now (table .entry))) at) ⌝ }
+    ensures { λ r. ⌜ (r .part, treeCell (r .cell)) ≡ readOr noCell (parseLoneCell (now (source .entry)) (liveNames names (now (table .entry))) at) ⌝ }
 {
     let read = cell_at(source, table, names, at);
     let part = read.part;

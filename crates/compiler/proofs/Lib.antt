@@ -1,4 +1,4 @@
 -- What the proofs of several functions use.
-pub mod Readings
-pub mod Closing
-pub mod Outcomes
+pub mod ReadingLaws
+pub mod DemandThree
+pub mod DemandOne

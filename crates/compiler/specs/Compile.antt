@@ -1,14 +1,13 @@
--- What `compile` answers, and what it leaves in the lent words. Assumes nothing.
+-- What `compile` answers, and what it leaves in the lent words.
 use Prim.Native.Nat.{ℕ}
+use mathlib.Core.Path.{_≡_}
 use mathlib.Core.List.{List}
 use lib.Dec.{eqb, leb}
-use lib.ListN.{length}
-use Rattle.source.specs.Bytes.{whether}
-use Rattle.emission.specs.Compile.{Result, compileDef}
+use lib.ListN.{length, replicate}
+use Rattle.prelude.specs.Choice.{whether}
+use Rattle.compilation.specs.Compile.{Result, compileDef}
 use Rattle.compiler.specs.declared.Answer.{Answer}
-
-abbrev pub imageWords : ℕ
-imageWords = 16384
+use Rattle.layout.specs.Addresses.{memoryWords}
 
 abbrev pub scratchWords : ℕ
 scratchWords = 12288
@@ -16,7 +15,7 @@ scratchWords = 12288
 -- "image not 16,384 words" is 1, "scratch under 12,288 words" 2, both at 0 and before reading; "text over 8,192 bytes" is 3, the definition's own
 unfoldable pub resultOn : List ℕ → List ℕ → List ℕ → Result
 resultOn source image scratch =
-    whether (eqb (length image) imageWords)
+    whether (eqb (length image) memoryWords)
     (λ _. whether (leb scratchWords (length scratch)) (λ _. compileDef source) (λ _. Result.failed 2 0))
     (λ _. Result.failed 1 0)
 
@@ -29,3 +28,13 @@ answerOf (Result.failed n at) = Answer.Failed n at
 unfoldable pub imageAfter : Result → List ℕ → List ℕ
 imageAfter (Result.accepted c) image = c .image
 imageAfter (Result.failed n at) image = image
+
+-- the answer and the image of a result
+abbrev pub Answers : Result → List ℕ → Answer → List ℕ → Type 0
+Answers result image r image' = (r ≡ answerOf result) × (image' ≡ imageAfter result image)
+
+-- A CALL OF `compile`: the answer, the image, and scratch all zeros
+pub record CompileCalled (source image scratch : List ℕ) (r : Answer) (image' scratch' : List ℕ) : Type 0 where
+  pub answered : r ≡ answerOf (resultOn source image scratch)
+  pub laid : image' ≡ imageAfter (resultOn source image scratch) image
+  pub cleared : scratch' ≡ replicate (length scratch) 0

@@ -1,5 +1,5 @@
 -- What `compile` answers and leaves, and the demands as its caller sees them.
 pub mod Compile
-pub mod Passes
-pub mod Closing
-pub mod Outcomes
+pub mod Readings
+pub mod DemandThree
+pub mod DemandOne

@@ -1,23 +1,25 @@
-// The compiler. A source is read twice by the same function: first on no image at all, so that one that fails has touched nothing, then on the image, with the pools' addresses that the first reading found.
+// The compiler. A source is read twice by the same function: first on no image at all, so that one that fails has touched nothing, then on the image, with
+// the pools' addresses that the first reading found.
 ghost use mathlib.Core.Path.{_≡_};
 ghost use Prim.Native.Nat.{_≤_};
 ghost use lib.ListN.{length, replicate};
-ghost use Rattle.emission.specs.Compile.{compileDef};
-ghost use Rattle.compiler.specs.Compile.{resultOn, answerOf, imageAfter};
-ghost use Rattle.compiler.specs.Passes.{countedOf, answeredOf};
-use cells::Part;
-use cells::failures::SHORT_SCRATCH;
-use declarations::Ends;
+ghost use Rattle.layout.specs.Addresses.{memoryWords};
+ghost use Rattle.compilation.specs.Compile.{compileDef};
+ghost use Rattle.declarations.specs.Scopes.{tableWords};
+ghost use Rattle.compiler.specs.Compile.{resultOn, Answers, CompileCalled};
+ghost use Rattle.compiler.specs.Readings.{countedOf, answeredOf};
 use declarations::ProgramAnswer;
+use declarations::SectorEnds;
 use declarations::program::program;
 use declarations::with_end;
 use emitter::held_count;
+use layout::addresses;
+use layout::addresses::MEMORY_WORDS;
 use machine::failure::WRONG_IMAGE;
-use symbols::clear;
+use parser::Part;
+use parser::failures::SHORT_SCRATCH;
 
 pub mod demand;
-
-const IMAGE_WORDS: usize = 16384;
 
 const SCRATCH_WORDS: usize = 12288;
 
@@ -27,7 +29,7 @@ const SOURCE_BYTES: usize = 8192;
 const LONG_SOURCE: u16 = 3;
 
 // The first address of code.
-const FIRST_CODE: u32 = 0o1000;
+const FIRST_CODE: u32 = addresses::FIRST_CODE as u32;
 
 // What a source compiles to: the entry and the counts of words of code and of globals, or a failure's number and offset.
 pub enum Answer {
@@ -42,24 +44,35 @@ pub enum Answer {
     },
 }
 
+// All zeros.
+fn clear(words: &mut [u16])
+    ensures { λ _. ⌜ now (words .exit) ≡ replicate (length (now (words .entry))) 0 ⌝ }
+{
+    let mut i = 0;
+    while i < words.len() {
+        words[i] = 0;
+        i += 1;
+    }
+}
+
 // The answer for a program that was read.
 fn accepted(read: ProgramAnswer) -> Answer
     ensures { λ r. ⌜ r ≡ countedOf read ⌝ }
 {
-    let state = read.state;
+    let allocation = read.allocation;
     let end = read.end;
-    let output = state.output;
+    let output = allocation.output;
     let pool = end.pool;
-    let after = end.code as u32 + held_count(pool) as u32;
+    let after = end.next as u32 + held_count(pool) as u32;
     let words = if after < FIRST_CODE {
         0
     } else {
         (after - FIRST_CODE) as u16
     };
     Answer::Accepted {
-        entry: output.code,
+        entry: output.next,
         words,
-        globals: state.words,
+        globals: allocation.taken,
     }
 }
 
@@ -75,12 +88,12 @@ fn answered(read: ProgramAnswer) -> Answer
 }
 
 // The two readings.
-fn passes(source: &[u8], image: &mut [u16], scratch: &mut [u16]) -> Answer
-    requires { ⌜ (length (now source) ≤ 8192) × (length (now image) ≡ 16384) × (3584 ≤ length (now scratch)) ⌝ }
-    ensures { λ r. ⌜ (r ≡ answerOf (compileDef (now (source .entry)))) × (now (image .exit) ≡ imageAfter (compileDef (now (source .entry))) (now (image .entry))) ⌝ }
+fn read_twice(source: &[u8], image: &mut [u16], scratch: &mut [u16]) -> Answer
+    requires { ⌜ (length (now source) ≤ 8192) × (length (now image) ≡ memoryWords) × (tableWords ≤ length (now scratch)) ⌝ }
+    ensures { λ r. ⌜ Answers (compileDef (now (source .entry))) (now (image .entry)) r (now (image .exit)) ⌝ }
 {
-    let unplanned = Ends {
-        codes: [0u16; 32],
+    let unplanned = SectorEnds {
+        ends: [0u16; 32],
         count: 0,
     };
     let read = program(source, &mut *scratch, &mut image[0..0], unplanned);
@@ -93,20 +106,20 @@ fn passes(source: &[u8], image: &mut [u16], scratch: &mut [u16]) -> Answer
     else {
         return answer;
     };
-    let state = read.state;
+    let allocation = read.allocation;
     let end = read.end;
-    let ends = state.ends;
-    let plan = with_end(ends, end.code);
+    let sectors = allocation.sectors;
+    let plan = with_end(sectors, end.next);
     clear(&mut *image);
     program(source, &mut *scratch, &mut *image, plan);
     answer
 }
 
-// The lengths are judged before anything is read.
-fn judged(source: &[u8], image: &mut [u16], scratch: &mut [u16]) -> Answer
-    ensures { λ r. ⌜ (r ≡ answerOf (resultOn (now (source .entry)) (now (image .entry)) (now (scratch .entry)))) × (now (image .exit) ≡ imageAfter (resultOn (now (source .entry)) (now (image .entry)) (now (scratch .entry))) (now (image .entry))) ⌝ }
+// The lengths are checked before anything is read.
+fn check_and_compile(source: &[u8], image: &mut [u16], scratch: &mut [u16]) -> Answer
+    ensures { λ r. ⌜ Answers (resultOn (now (source .entry)) (now (image .entry)) (now (scratch .entry))) (now (image .entry)) r (now (image .exit)) ⌝ }
 {
-    if image.len() != IMAGE_WORDS {
+    if image.len() != MEMORY_WORDS {
         return Answer::Failed {
             number: WRONG_IMAGE,
             at: 0,
@@ -124,14 +137,14 @@ fn judged(source: &[u8], image: &mut [u16], scratch: &mut [u16]) -> Answer
             at: 0,
         };
     }
-    passes(source, &mut *image, &mut *scratch)
+    read_twice(source, &mut *image, &mut *scratch)
 }
 
 // Whatever the answer, scratch ends as zeros.
 pub fn compile(source: &[u8], image: &mut [u16], scratch: &mut [u16]) -> Answer
-    ensures { λ r. ⌜ (r ≡ answerOf (resultOn (now (source .entry)) (now (image .entry)) (now (scratch .entry)))) × (now (image .exit) ≡ imageAfter (resultOn (now (source .entry)) (now (image .entry)) (now (scratch .entry))) (now (image .entry))) × (now (scratch .exit) ≡ replicate (length (now (scratch .entry))) 0) ⌝ }
+    ensures { λ r. ⌜ CompileCalled (now (source .entry)) (now (image .entry)) (now (scratch .entry)) r (now (image .exit)) (now (scratch .exit)) ⌝ }
 {
-    let answer = judged(source, &mut *image, &mut *scratch);
+    let answer = check_and_compile(source, &mut *image, &mut *scratch);
     clear(&mut *scratch);
     answer
 }

@@ -1,14 +1,12 @@
--- Laws of results, names, items, limits, states and each form of declaration.
-pub mod Reading
-pub mod Naming
-pub mod Scoping
-pub mod Limiting
-pub mod Plans
-pub mod Stating
-pub mod Arraying
-pub mod Mapping
-pub mod Judging
-pub mod Locals
-pub mod Proceeding
-pub mod Dispatching
-pub mod Finishing
+-- Laws of results, names, items, limits, allocation and each form of declaration.
+pub mod ParseLaws
+pub mod NameLaws
+pub mod ScopeLaws
+pub mod LimitLaws
+pub mod SectorLaws
+pub mod AllocationLaws
+pub mod ArrayLaws
+pub mod ListLaws
+pub mod ProcedureLaws
+pub mod FormLaws
+pub mod ProgramLaws

@@ -1,11 +1,11 @@
--- What each part of a declaration promises: `Reads`, with what is declared. Assumes nothing.
+-- What each part of a declaration promises: `Reads`, with what is declared.
 use Prim.Native.Nat.{ℕ}
 use mathlib.Core.Path.{_≡_}
 use mathlib.Core.List.{List}
 use lib.ListN.{length}
-use Rattle.syntax.specs.Parse.{Got}
-use Rattle.cells.specs.declared.Part.{Part}
-use Rattle.cells.specs.Reads.{Reads}
+use Rattle.grammar.specs.Parse.{Got}
+use Rattle.parser.specs.declared.Part.{Part}
+use Rattle.parser.specs.Reads.{Reads}
 
 -- a part of a declaration. Of what was lent a failure promises nothing here; the lengths stay, as the language has it with every call
 abbrev pub Declares : {A : Type 0} → (A → Type 0) → Part → Got A → Type 0

@@ -1,7 +1,8 @@
 -- Declarations, compiled.
 pub mod Declares
 pub mod Scopes
-pub mod States
+pub mod Allocations
 pub mod Forms
-pub mod Arrays
+pub mod Values
 pub mod Procedures
+pub mod Contracts

@@ -1,24 +1,17 @@
 // Arrays.
 ghost use mathlib.Core.Path.{_≡_};
-ghost use mathlib.Core.List.{[], _∷_};
-ghost use Prim.Native.Nat.{ℕ, _+_, _≤_};
-ghost use lib.Dec.{leb};
-ghost use lib.ListN.{length};
+ghost use Prim.Native.Nat.{_+_};
 ghost use Rattle.source.specs.Kinds as kinds;
-ghost use Rattle.syntax.specs.Parse.{andThen, within, parted, expect as expectDef};
-ghost use Rattle.syntax.specs.Parse.Got.{got};
-ghost use Rattle.syntax.specs.Cells.{parseInRange};
-ghost use Rattle.syntax.specs.Declarations.{sizeOf};
 ghost use Rattle.symbols.specs.Packing.{unpack};
-ghost use Rattle.symbols.specs.Table as tables;
-ghost use Rattle.emitter.specs.Emitted.{heldBy};
-ghost use Rattle.cells.specs.Answers.{partOf};
-ghost use Rattle.declarations.specs.Declares.{Declares, Gives};
-ghost use Rattle.declarations.specs.States.{stateOf, Sound, Anyhow, spaceNumber};
-ghost use Rattle.declarations.specs.Forms.{arrayHead, oneArray, arrayIn, arraysIn};
-use crate::Answer;
-use crate::HeadAnswer;
-use crate::State;
+ghost use Rattle.symbols.specs.Table.{liveNames};
+ghost use Rattle.parser.specs.Answers.{partOf};
+ghost use Rattle.declarations.specs.Declares.{Gives};
+ghost use Rattle.declarations.specs.Allocations.{allocationOf, spaceNumber, poolEnd};
+ghost use Rattle.declarations.specs.Forms.{arrayHead, oneArray, arraysIn};
+ghost use Rattle.declarations.specs.Contracts.{Ready, AllocatesAnyPlan, AllocatesOne, afterToken, sizeAt, arrayListAt, closingAt};
+use crate::Allocation;
+use crate::AllocationAnswer;
+use crate::ArrayHeadAnswer;
 use crate::globals::declare_global;
 use crate::globals::global_name;
 use crate::globals::store_global;
@@ -26,13 +19,14 @@ use crate::limits::space_limit;
 use crate::names::pass_at;
 use crate::values::initials;
 use cells::ConstantAnswer;
-use cells::Part;
-use cells::expect;
-use cells::fail_at;
-use cells::failures;
 use cells::size_at;
 use cells::size_of;
 use emitter::Output;
+use layout::addresses::ARRAY_TAG;
+use parser::Part;
+use parser::expect;
+use parser::fail_at;
+use parser::failures;
 use source::kind::COMMA;
 use source::kind::LEFT_BRACKET;
 use source::kind::RIGHT_BRACKET;
@@ -41,13 +35,10 @@ use source::token_at;
 use symbols::Array;
 use symbols::Symbol;
 
-// An array word is tagged, so that X is added.
-const TAG: u16 = 0o40000;
-
 // `[` and the constant that gives the size.
 fn bracketed(source: &[u8], table: &[u16], names: usize, at: usize) -> ConstantAnswer
     ensures { λ r. ⌜ Gives (r .part) (r .value)
-        (andThen (expectDef kinds.leftBracket (now (source .entry)) at) (λ _ n. parseInRange (now (source .entry)) (tables.heldBy names (now (table .entry))) (λ v. leb (sizeOf v) 8192) n)) ⌝ }
+        (afterToken (now (source .entry)) kinds.leftBracket (sizeAt (now (source .entry)) (liveNames names (now (table .entry)))) at) ⌝ }
 {
     let part = expect(source, LEFT_BRACKET, at);
     let Part::Read { next } = part else {
@@ -56,9 +47,9 @@ fn bracketed(source: &[u8], table: &[u16], names: usize, at: usize) -> ConstantA
     size_at(source, table, names, next)
 }
 
-// `]`, where the array's space is judged.
+// `]`, where the limit of the array's space is.
 fn closing(source: &[u8], output: Output, size: u16, array: u16, at: usize) -> Part
-    ensures { λ r. ⌜ r ≡ partOf {A = ℕ} (andThen (expectDef kinds.rightBracket (now (source .entry)) at) (λ t n. within (spaceNumber (output .code + length (heldBy (output .pool)) + size) array) t (got 0 n))) ⌝ }
+    ensures { λ r. ⌜ r ≡ partOf (closingAt (now (source .entry)) (spaceNumber (poolEnd output + size) array) at) ⌝ }
 {
     let t = token_at(source, at);
     if t.kind != RIGHT_BRACKET {
@@ -68,17 +59,17 @@ fn closing(source: &[u8], output: Output, size: u16, array: u16, at: usize) -> P
 }
 
 // An array up to its `]`.
-fn array_head(source: &[u8], table: &[u16], state: State, at: usize) -> HeadAnswer
-    requires { ⌜ Sound state × (3584 ≤ length (now table)) ⌝ }
+fn array_head(source: &[u8], table: &[u16], allocation: Allocation, at: usize) -> ArrayHeadAnswer
+    requires { ⌜ Ready allocation (now table) ⌝ }
     ensures { λ r. ⌜ Gives (r .part) (unpack (r .name), r .size)
-        (arrayHead (now (source .entry)) (stateOf state (now (table .entry))) at) ⌝ }
+        (arrayHead (now (source .entry)) (allocationOf allocation (now (table .entry))) at) ⌝ }
 {
-    let names = state.names;
-    let named = global_name(source, table, state, at);
+    let names = allocation.names;
+    let named = global_name(source, table, allocation, at);
     let part = named.part;
     let name = named.name;
     let Part::Read { next } = part else {
-        return HeadAnswer {
+        return ArrayHeadAnswer {
             part,
             name,
             size: 0,
@@ -87,74 +78,71 @@ fn array_head(source: &[u8], table: &[u16], state: State, at: usize) -> HeadAnsw
     let valued = bracketed(source, table, names, next);
     let part = valued.part;
     let Part::Read { next } = part else {
-        return HeadAnswer {
+        return ArrayHeadAnswer {
             part,
             name,
             size: 0,
         };
     };
     let size = size_of(valued.value);
-    let output = state.output;
-    HeadAnswer {
-        part: closing(source, output, size, state.array, next),
+    let output = allocation.output;
+    ArrayHeadAnswer {
+        part: closing(source, output, size, allocation.array, next),
         name,
         size,
     }
 }
 
-// An array, declared and laid.
-fn array(source: &[u8], table: &mut [u16], image: &mut [u16], state: State, at: usize) -> Answer
-    requires { ⌜ Sound state × (3584 ≤ length (now table)) ⌝ }
-    ensures { λ r. ⌜ Declares (λ d. Anyhow state (now (table .entry)) (now (image .entry)) (r .state) (now (table .exit)) (now (image .exit)) (d ∷ [])) (r .part) (oneArray (now (source .entry)) (stateOf state (now (table .entry))) at) ⌝ }
+// An array, declared and emitted.
+fn array(
+    source: &[u8],
+    table: &mut [u16],
+    image: &mut [u16],
+    allocation: Allocation,
+    at: usize,
+) -> AllocationAnswer
+    requires { ⌜ Ready allocation (now table) ⌝ }
+    ensures { λ r. ⌜ AllocatesOne allocation (now (table .entry)) (now (image .entry)) r (now (table .exit)) (now (image .exit))
+        (oneArray (now (source .entry)) (allocationOf allocation (now (table .entry))) at) ⌝ }
 {
-    let head = array_head(source, table, state, at);
+    let head = array_head(source, table, allocation, at);
     let part = head.part;
     let Part::Read { next } = part else {
-        return Answer { part, state };
+        return AllocationAnswer { part, allocation };
     };
     let size = head.size;
     let name = head.name;
-    let words = state.words;
-    let top = state.array;
-    store_global(image, words, TAG + top);
+    let names = allocation.names;
+    let number = allocation.taken;
+    let top = allocation.array;
+    store_global(image, number, ARRAY_TAG + top);
     let first = top - size;
-    let part = initials(
-        source,
-        table,
-        image,
-        state.names,
-        first as usize,
-        size,
-        next,
-    );
+    let part = initials(source, table, image, names, first as usize, size, next);
     let Part::Read { next: _ } = part else {
-        return Answer { part, state };
+        return AllocationAnswer { part, allocation };
     };
     let symbol = Symbol::Array {
-        array: Array {
-            number: words,
-            size,
-        },
+        array: Array { number, size },
     };
-    Answer {
+    AllocationAnswer {
         part,
-        state: declare_global(table, state, state.output, first, name, symbol),
+        allocation: declare_global(table, allocation, allocation.output, first, name, symbol),
     }
 }
 
-// Arrays parted by commas, each declared before the next.
+// Arrays separated by commas, each declared before the next.
 fn array_list(
     source: &[u8],
     table: &mut [u16],
     image: &mut [u16],
-    state: State,
+    allocation: Allocation,
     at: usize,
-) -> Answer
-    requires { ⌜ Sound state × (3584 ≤ length (now table)) ⌝ }
-    ensures { λ r. ⌜ Declares (Anyhow state (now (table .entry)) (now (image .entry)) (r .state) (now (table .exit)) (now (image .exit))) (r .part)
-        (parted (now (source .entry)) kinds.comma (arrayIn (now (source .entry)) (stateOf state (now (table .entry))) []) (arrayIn (now (source .entry)) (stateOf state (now (table .entry)))) at) ⌝ }
+) -> AllocationAnswer
+    requires { ⌜ Ready allocation (now table) ⌝ }
+    ensures { λ r. ⌜ AllocatesAnyPlan allocation (now (table .entry)) (now (image .entry)) r (now (table .exit)) (now (image .exit))
+        (arrayListAt (now (source .entry)) (allocationOf allocation (now (table .entry))) at) ⌝ }
 {
-    let mut current = state;
+    let mut current = allocation;
     let mut from = at;
     let mut left = source.len();
     loop {
@@ -170,8 +158,7 @@ fn array_list(
         if t.kind != COMMA {
             return one;
         }
-        let after = one.state;
-        current = after;
+        current = one.allocation;
         from = t.next;
         left -= 1;
     }
@@ -182,20 +169,21 @@ pub fn arrays(
     source: &[u8],
     table: &mut [u16],
     image: &mut [u16],
-    state: State,
+    allocation: Allocation,
     at: usize,
-) -> Answer
-    requires { ⌜ Sound state × (3584 ≤ length (now table)) ⌝ }
-    ensures { λ r. ⌜ Declares (Anyhow state (now (table .entry)) (now (image .entry)) (r .state) (now (table .exit)) (now (image .exit))) (r .part) (arraysIn (now (source .entry)) (stateOf state (now (table .entry))) at) ⌝ }
+) -> AllocationAnswer
+    requires { ⌜ Ready allocation (now table) ⌝ }
+    ensures { λ r. ⌜ AllocatesAnyPlan allocation (now (table .entry)) (now (image .entry)) r (now (table .exit)) (now (image .exit))
+        (arraysIn (now (source .entry)) (allocationOf allocation (now (table .entry))) at) ⌝ }
 {
-    let list = array_list(source, table, image, state, at);
+    let list = array_list(source, table, image, allocation, at);
     let part = list.part;
     let Part::Read { next } = part else {
         return list;
     };
-    let after = list.state;
-    Answer {
+    let after = list.allocation;
+    AllocationAnswer {
         part: expect(source, SEMICOLON, next),
-        state: after,
+        allocation: after,
     }
 }

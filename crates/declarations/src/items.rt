@@ -1,50 +1,50 @@
 // An integer, constant or compconstant, at both levels.
 ghost use mathlib.Core.Path.{_≡_};
-ghost use mathlib.Core.List.{[], _∷_};
+ghost use mathlib.Core.List.{[]};
 ghost use Prim.Native.Nat.{_+_, _*_, _≤_};
 ghost use lib.ListN.{length};
 ghost use Rattle.source.specs.Kinds as kinds;
-ghost use Rattle.syntax.specs.Parse.{andThen, expect as expectDef};
-ghost use Rattle.syntax.specs.Symbols.{itemSymbol};
-ghost use Rattle.syntax.specs.Cells.{parseConstant};
-ghost use Rattle.syntax.specs.Declarations.{itemLimit, itemFrom, parseItem};
+ghost use Rattle.tree.specs.Symbols.{itemSymbol};
+ghost use Rattle.grammar.specs.Cells.{parseConstant};
+ghost use Rattle.grammar.specs.Declarations.{itemLimit, itemFrom, parseItem};
 ghost use Rattle.symbols.specs.Packing.{unpack};
-ghost use Rattle.symbols.specs.Table.{heldBy};
+ghost use Rattle.symbols.specs.Table.{liveNames};
 ghost use Rattle.symbols.specs.Trees.{treeSymbol};
-ghost use Rattle.emitter.specs.Programs.{stored, itemValues};
-ghost use Rattle.declarations.specs.Declares.{Declares, Gives};
-ghost use Rattle.declarations.specs.Scopes.{scopeOf, treeWord, treeItem, Room, Scoped};
+ghost use Rattle.layout.specs.Emission.{stored, itemValues};
+ghost use Rattle.declarations.specs.Declares.{Gives};
+ghost use Rattle.declarations.specs.Scopes.{scopeOf, treeKeyword, treeItem, Room};
+ghost use Rattle.declarations.specs.Contracts.{DeclaresItem, afterToken};
 use crate::Item;
 use crate::ItemAnswer;
-use crate::ItemWord;
+use crate::ItemKeyword;
 use crate::Scope;
 use crate::ScopeAnswer;
 use crate::names::name_limit;
 use crate::names::new_name;
 use cells::ConstantAnswer;
-use cells::Part;
 use cells::constant_at;
-use cells::expect;
 use emitter::store;
+use parser::Part;
+use parser::expect;
 use source::kind::EQUAL;
 use symbols::Packed;
 use symbols::Symbol;
 use symbols::id_of;
 
-fn item_limit(word: ItemWord, scope: Scope) -> u16
-    ensures { λ r. ⌜ r ≡ itemLimit (treeWord word) (scopeOf scope []) ⌝ }
+fn item_limit(keyword: ItemKeyword, scope: Scope) -> u16
+    ensures { λ r. ⌜ r ≡ itemLimit (treeKeyword keyword) (scopeOf scope []) ⌝ }
 {
-    match word {
-        ItemWord::Integer => name_limit(scope),
-        ItemWord::Constant => name_limit(scope),
-        ItemWord::Compconstant => 0,
+    match keyword {
+        ItemKeyword::Integer => name_limit(scope),
+        ItemKeyword::Constant => name_limit(scope),
+        ItemKeyword::Compconstant => 0,
     }
 }
 
 // `=` and a constant.
 fn value_at(source: &[u8], table: &[u16], names: usize, at: usize) -> ConstantAnswer
     ensures { λ r. ⌜ Gives (r .part) (r .value)
-        (andThen (expectDef kinds.equal (now (source .entry)) at) (λ _ n. parseConstant (now (source .entry)) (heldBy names (now (table .entry))) n)) ⌝ }
+        (afterToken (now (source .entry)) kinds.equal (parseConstant (now (source .entry)) (liveNames names (now (table .entry)))) at) ⌝ }
 {
     let part = expect(source, EQUAL, at);
     let Part::Read { next } = part else {
@@ -58,20 +58,20 @@ fn item_from(
     source: &[u8],
     table: &[u16],
     scope: Scope,
-    word: ItemWord,
+    keyword: ItemKeyword,
     name: Packed,
     at: usize,
 ) -> ItemAnswer
     ensures { λ r. ⌜ Gives (r .part) (unpack (r .name), treeItem (r .item))
-        (itemFrom (now (source .entry)) (treeWord word) (scopeOf scope (now (table .entry))) (unpack name) at) ⌝ }
+        (itemFrom (now (source .entry)) (treeKeyword keyword) (scopeOf scope (now (table .entry))) (unpack name) at) ⌝ }
 {
-    match word {
-        ItemWord::Integer => ItemAnswer {
+    match keyword {
+        ItemKeyword::Integer => ItemAnswer {
             part: Part::Read { next: at },
             name,
             item: Item::Integer,
         },
-        ItemWord::Constant => {
+        ItemKeyword::Constant => {
             let valued = value_at(source, table, scope.names, at);
             let part = valued.part;
             let value = valued.value;
@@ -81,7 +81,7 @@ fn item_from(
                 item: Item::Constant { value },
             }
         }
-        ItemWord::Compconstant => {
+        ItemKeyword::Compconstant => {
             let valued = value_at(source, table, scope.names, at);
             let part = valued.part;
             let value = valued.value;
@@ -95,12 +95,18 @@ fn item_from(
 }
 
 // A name and its item.
-fn item_at(source: &[u8], table: &[u16], scope: Scope, word: ItemWord, at: usize) -> ItemAnswer
+fn item_at(
+    source: &[u8],
+    table: &[u16],
+    scope: Scope,
+    keyword: ItemKeyword,
+    at: usize,
+) -> ItemAnswer
     requires { ⌜ 7 * scope .names ≤ length (now table) ⌝ }
     ensures { λ r. ⌜ Gives (r .part) (unpack (r .name), treeItem (r .item))
-        (parseItem (now (source .entry)) (treeWord word) (scopeOf scope (now (table .entry))) at) ⌝ }
+        (parseItem (now (source .entry)) (treeKeyword keyword) (scopeOf scope (now (table .entry))) at) ⌝ }
 {
-    let named = new_name(source, table, scope, item_limit(word, scope), at);
+    let named = new_name(source, table, scope, item_limit(keyword, scope), at);
     let part = named.part;
     let name = named.name;
     let Part::Read { next } = part else {
@@ -110,14 +116,14 @@ fn item_at(source: &[u8], table: &[u16], scope: Scope, word: ItemWord, at: usize
             item: Item::Integer,
         };
     };
-    item_from(source, table, scope, word, name, next)
+    item_from(source, table, scope, keyword, name, next)
 }
 
 // What an item's name will stand for.
 fn symbol_of(scope: Scope, item: Item) -> Symbol
     ensures { λ r. ⌜ treeSymbol r ≡ itemSymbol (scopeOf scope []) (treeItem item) ⌝ }
 {
-    let id = id_of(scope.level, scope.words);
+    let id = id_of(scope.level, scope.taken);
     match item {
         Item::Integer => Symbol::Integer { id },
         Item::Constant { value } => Symbol::Constant { id, value },
@@ -126,8 +132,9 @@ fn symbol_of(scope: Scope, item: Item) -> Symbol
 }
 
 // The item's word, if it takes one; and how many it takes.
-fn lay(image: &mut [u16], at: usize, item: Item) -> u16
-    ensures { λ r. ⌜ (now (image .exit) ≡ stored (now (image .entry)) at (itemValues (treeItem item))) × (r ≡ length (itemValues (treeItem item))) × (r ≤ 1) ⌝ }
+fn emit_item(image: &mut [u16], at: usize, item: Item) -> u16
+    ensures { λ r. ⌜ (now (image .exit) ≡ stored (now (image .entry)) at (itemValues (treeItem item)))
+        × (r ≡ length (itemValues (treeItem item))) × (r ≤ 1) ⌝ }
 {
     match item {
         Item::Integer => {
@@ -142,19 +149,20 @@ fn lay(image: &mut [u16], at: usize, item: Item) -> u16
     }
 }
 
-// A name and its item, declared and laid.
+// A name and its item, declared and emitted.
 pub fn item(
     source: &[u8],
     table: &mut [u16],
     image: &mut [u16],
     scope: Scope,
-    word: ItemWord,
+    keyword: ItemKeyword,
     at: usize,
 ) -> ScopeAnswer
     requires { ⌜ Room scope (now table) ⌝ }
-    ensures { λ r. ⌜ Declares (λ one. Scoped scope (now (table .entry)) (now (image .entry)) (r .scope) (now (table .exit)) (now (image .exit)) (one ∷ [])) (r .part) (parseItem (now (source .entry)) (treeWord word) (scopeOf scope (now (table .entry))) at) ⌝ }
+    ensures { λ r. ⌜ DeclaresItem scope (now (table .entry)) (now (image .entry)) r (now (table .exit)) (now (image .exit))
+        (parseItem (now (source .entry)) (treeKeyword keyword) (scopeOf scope (now (table .entry))) at) ⌝ }
 {
-    let one = item_at(source, table, scope, word, at);
+    let one = item_at(source, table, scope, keyword, at);
     let part = one.part;
     let Part::Read { next: _ } = part else {
         return ScopeAnswer { part, scope };
@@ -164,17 +172,17 @@ pub fn item(
     let Scope {
         names,
         level,
-        words,
+        taken,
         base,
     } = scope;
-    let taken = lay(image, base as usize + words as usize, value);
+    let size = emit_item(image, base as usize + taken as usize, value);
     symbols::declare(table, names, name, level, symbol_of(scope, value));
     ScopeAnswer {
         part,
         scope: Scope {
             names: names + 1,
             level,
-            words: words + taken,
+            taken: taken + size,
             base,
         },
     }

@@ -1,6 +1,6 @@
 // Declarations: parsed, declared and emitted in one go.
 ghost use mathlib.Core.Path.{_≡_};
-ghost use Rattle.declarations.specs.States.{withEnd};
+ghost use Rattle.declarations.specs.Allocations.{withEnd};
 
 mod arrays;
 mod frames;
@@ -14,35 +14,37 @@ pub mod program;
 mod sectors;
 mod values;
 
-use cells::Part;
 use emitter::Output;
+use parser::Part;
 use symbols::Packed;
 
 // The code ends of the closed sectors, in order; the first `count` count.
-pub struct Ends {
-    pub codes: [u16; 32],
+pub struct SectorEnds {
+    pub ends: [u16; 32],
     pub count: usize,
 }
 
-// The state between declarations, but for the symbol table: the counts of live names and of globals that take a word, what is emitted, the closed sectors' code ends, and element 0 of the next array.
-pub struct State {
+// Storage allocated between declarations, but for the symbol table: the counts of live names and of globals that take a word, what is emitted, the closed
+// sectors, and element 0 of the next array.
+pub struct Allocation {
     pub names: usize,
-    pub words: u16,
+    pub taken: u16,
     pub output: Output,
-    pub ends: Ends,
+    pub sectors: SectorEnds,
     pub array: u16,
 }
 
-// What an item is declared under: the count of live names, its level as the symbol table has it, how many words its names have taken, and the address of the first.
+// What an item is declared under: the count of live names, its level as the symbol table has it, how many words its names have taken, and the address of
+// the first.
 pub struct Scope {
     pub names: usize,
     pub level: u16,
-    pub words: u16,
+    pub taken: u16,
     pub base: u16,
 }
 
 // How an item's declaration begins.
-pub enum ItemWord {
+pub enum ItemKeyword {
     Integer,
     Constant,
     Compconstant,
@@ -55,8 +57,8 @@ pub enum Item {
 }
 
 // Whether a token begins the declaration of items.
-pub enum WordFound {
-    Word { word: ItemWord },
+pub enum KeywordFound {
+    Keyword { keyword: ItemKeyword },
     Nothing,
 }
 
@@ -78,7 +80,7 @@ pub struct ScopeAnswer {
 }
 
 // An array up to its `]`.
-pub struct HeadAnswer {
+pub struct ArrayHeadAnswer {
     pub part: Part,
     pub name: Packed,
     pub size: u16,
@@ -98,28 +100,28 @@ pub struct FrameAnswer {
     pub output: Output,
 }
 
-// A program: the state after its declarations, and what is emitted at its end.
+// A program: the allocation after its declarations, and what is emitted at its end.
 pub struct ProgramAnswer {
     pub part: Part,
-    pub state: State,
+    pub allocation: Allocation,
     pub end: Output,
 }
 
-pub struct Answer {
+pub struct AllocationAnswer {
     pub part: Part,
-    pub state: State,
+    pub allocation: Allocation,
 }
 
 // One code end more, while there is room.
-pub fn with_end(ends: Ends, code: u16) -> Ends
-    ensures { λ r. ⌜ r ≡ withEnd ends code ⌝ }
+pub fn with_end(sectors: SectorEnds, end: u16) -> SectorEnds
+    ensures { λ r. ⌜ r ≡ withEnd sectors end ⌝ }
 {
-    let count = ends.count;
+    let count = sectors.count;
     if 32 <= count {
-        return ends;
+        return sectors;
     }
-    let mut next = ends;
-    next.codes[count] = code;
+    let mut next = sectors;
+    next.ends[count] = end;
     next.count = count + 1;
     next
 }

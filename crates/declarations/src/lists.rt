@@ -1,19 +1,17 @@
 // Lists of integers, constants and compconstants, at both levels.
 ghost use mathlib.Core.Path.{_≡_};
 ghost use mathlib.Core.List.{[]};
-ghost use Rattle.source.specs.Kinds as kinds;
-ghost use Rattle.syntax.specs.Parse.{parted};
-ghost use Rattle.syntax.specs.Declarations.{parseLocal, parseList, parseLocals};
-ghost use Rattle.declarations.specs.Declares.{Declares};
-ghost use Rattle.declarations.specs.Scopes.{scopeOf, treeWord, Room, Scoped};
-ghost use Rattle.declarations.specs.Procedures.{wordOf, treeFound};
-use crate::ItemWord;
+ghost use Rattle.grammar.specs.Declarations.{parseLocal, parseList, parseLocals};
+ghost use Rattle.declarations.specs.Scopes.{scopeOf, treeKeyword, Room};
+ghost use Rattle.declarations.specs.Procedures.{keywordOf, treeFound};
+ghost use Rattle.declarations.specs.Contracts.{DeclaresItems, itemListAt};
+use crate::ItemKeyword;
+use crate::KeywordFound;
 use crate::Scope;
 use crate::ScopeAnswer;
-use crate::WordFound;
 use crate::items::item;
-use cells::Part;
-use cells::expect;
+use parser::Part;
+use parser::expect;
 use source::kind::COMMA;
 use source::kind::COMPCONSTANT;
 use source::kind::CONSTANT;
@@ -21,24 +19,24 @@ use source::kind::INTEGER;
 use source::kind::SEMICOLON;
 use source::token_at;
 
-// Items parted by commas, each declared before the next.
+// Items separated by commas, each declared before the next.
 fn item_list(
     source: &[u8],
     table: &mut [u16],
     image: &mut [u16],
     scope: Scope,
-    word: ItemWord,
+    keyword: ItemKeyword,
     at: usize,
 ) -> ScopeAnswer
     requires { ⌜ Room scope (now table) ⌝ }
-    ensures { λ r. ⌜ Declares (Scoped scope (now (table .entry)) (now (image .entry)) (r .scope) (now (table .exit)) (now (image .exit))) (r .part)
-        (parted (now (source .entry)) kinds.comma (parseLocal (now (source .entry)) (scopeOf scope (now (table .entry))) (treeWord word) []) (parseLocal (now (source .entry)) (scopeOf scope (now (table .entry))) (treeWord word)) at) ⌝ }
+    ensures { λ r. ⌜ DeclaresItems scope (now (table .entry)) (now (image .entry)) r (now (table .exit)) (now (image .exit))
+        (itemListAt (now (source .entry)) (scopeOf scope (now (table .entry))) (treeKeyword keyword) at) ⌝ }
 {
     let mut current = scope;
     let mut from = at;
     let mut left = source.len();
     loop {
-        let one = item(source, table, image, current, word, from);
+        let one = item(source, table, image, current, keyword, from);
         let part = one.part;
         let Part::Read { next } = part else {
             return one;
@@ -50,8 +48,7 @@ fn item_list(
         if t.kind != COMMA {
             return one;
         }
-        let after = one.scope;
-        current = after;
+        current = one.scope;
         from = t.next;
         left -= 1;
     }
@@ -63,14 +60,14 @@ pub fn items(
     table: &mut [u16],
     image: &mut [u16],
     scope: Scope,
-    word: ItemWord,
+    keyword: ItemKeyword,
     at: usize,
 ) -> ScopeAnswer
     requires { ⌜ Room scope (now table) ⌝ }
-    ensures { λ r. ⌜ Declares (Scoped scope (now (table .entry)) (now (image .entry)) (r .scope) (now (table .exit)) (now (image .exit))) (r .part)
-        (parseList (now (source .entry)) (parseLocal (now (source .entry)) (scopeOf scope (now (table .entry))) (treeWord word)) [] at) ⌝ }
+    ensures { λ r. ⌜ DeclaresItems scope (now (table .entry)) (now (image .entry)) r (now (table .exit)) (now (image .exit))
+        (parseList (now (source .entry)) (parseLocal (now (source .entry)) (scopeOf scope (now (table .entry))) (treeKeyword keyword)) [] at) ⌝ }
 {
-    let list = item_list(source, table, image, scope, word, at);
+    let list = item_list(source, table, image, scope, keyword, at);
     let part = list.part;
     let Part::Read { next } = part else {
         return list;
@@ -82,26 +79,26 @@ pub fn items(
     }
 }
 
-// The word that a token of a kind stands for.
-pub fn item_word(kind: u16) -> WordFound
-    ensures { λ r. ⌜ treeFound r ≡ wordOf kind ⌝ }
+// The item keyword that a token of a kind is.
+pub fn item_keyword(kind: u16) -> KeywordFound
+    ensures { λ r. ⌜ treeFound r ≡ keywordOf kind ⌝ }
 {
     if kind == INTEGER {
-        return WordFound::Word {
-            word: ItemWord::Integer,
+        return KeywordFound::Keyword {
+            keyword: ItemKeyword::Integer,
         };
     }
     if kind == CONSTANT {
-        return WordFound::Word {
-            word: ItemWord::Constant,
+        return KeywordFound::Keyword {
+            keyword: ItemKeyword::Constant,
         };
     }
     if kind == COMPCONSTANT {
-        return WordFound::Word {
-            word: ItemWord::Compconstant,
+        return KeywordFound::Keyword {
+            keyword: ItemKeyword::Compconstant,
         };
     }
-    WordFound::Nothing
+    KeywordFound::Nothing
 }
 
 // Any lists of locals, each ended by `;`.
@@ -113,33 +110,33 @@ pub fn locals(
     at: usize,
 ) -> ScopeAnswer
     requires { ⌜ Room scope (now table) ⌝ }
-    ensures { λ r. ⌜ Declares (Scoped scope (now (table .entry)) (now (image .entry)) (r .scope) (now (table .exit)) (now (image .exit))) (r .part) (parseLocals (now (source .entry)) (scopeOf scope (now (table .entry))) at) ⌝ }
+    ensures { λ r. ⌜ DeclaresItems scope (now (table .entry)) (now (image .entry)) r (now (table .exit)) (now (image .exit))
+        (parseLocals (now (source .entry)) (scopeOf scope (now (table .entry))) at) ⌝ }
 {
     let mut current = scope;
     let mut from = at;
     let mut left = source.len();
     loop {
         let t = token_at(source, from);
-        let found = item_word(t.kind);
+        let found = item_keyword(t.kind);
         if left == 0 {
             return ScopeAnswer {
                 part: Part::Read { next: from },
                 scope: current,
             };
         }
-        let WordFound::Word { word } = found else {
+        let KeywordFound::Keyword { keyword } = found else {
             return ScopeAnswer {
                 part: Part::Read { next: from },
                 scope: current,
             };
         };
-        let list = items(source, table, image, current, word, t.next);
+        let list = items(source, table, image, current, keyword, t.next);
         let part = list.part;
         let Part::Read { next } = part else {
             return list;
         };
-        let after = list.scope;
-        current = after;
+        current = list.scope;
         from = next;
         left -= 1;
     }

@@ -4,25 +4,23 @@ ghost use mathlib.Core.List.{[]};
 ghost use Prim.Native.Nat.{ℕ, _*_, _≤_};
 ghost use lib.ListN.{length};
 ghost use Rattle.source.specs.Tokens.{tokenAt};
-ghost use Rattle.syntax.specs.Parse.{within};
-ghost use Rattle.syntax.specs.Parse.Got.{got};
-ghost use Rattle.syntax.specs.Limits.{nameLimit};
-ghost use Rattle.syntax.specs.Declarations.{newName};
+ghost use Rattle.grammar.specs.Parse.{within};
+ghost use Rattle.grammar.specs.Parse.Got.{got};
+ghost use Rattle.layout.specs.Limits.{nameLimit};
+ghost use Rattle.grammar.specs.Declarations.{newName};
 ghost use Rattle.symbols.specs.Packing.{unpack};
-ghost use Rattle.cells.specs.Answers.{partOf};
+ghost use Rattle.parser.specs.Answers.{partOf};
 ghost use Rattle.declarations.specs.Declares.{Gives};
 ghost use Rattle.declarations.specs.Scopes.{scopeOf, nameFailure};
 use crate::NameAnswer;
 use crate::Scope;
-use cells::Part;
-use cells::fail_at;
-use cells::failures;
+use layout::addresses::GLOBAL_WORDS;
+use parser::Part;
+use parser::fail_at;
+use parser::failures;
 use source::Token;
 use source::kind::NAME;
 use source::token_at;
-
-// The words of sector 0 that globals may take.
-const GLOBALS: u16 = 0o600;
 
 // The names that may be alive, X uncounted.
 const LIVE_NAMES: usize = 512;
@@ -75,7 +73,7 @@ pub fn name_limit(scope: Scope) -> u16
     ensures { λ r. ⌜ r ≡ nameLimit (scopeOf scope []) ⌝ }
 {
     if scope.level == 0 {
-        if GLOBALS <= scope.words {
+        if GLOBAL_WORDS <= scope.taken {
             return failures::NO_GLOBAL_LEFT;
         }
     }

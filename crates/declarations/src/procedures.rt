@@ -1,25 +1,22 @@
 // Procedures.
-ghost use mathlib.Core.Path.{_≡_};
-ghost use Prim.Native.Nat.{_+_, _≤_};
-ghost use lib.ListN.{length};
 ghost use Rattle.symbols.specs.Packing.{unpack};
-ghost use Rattle.declarations.specs.Declares.{Declares, Gives};
-ghost use Rattle.declarations.specs.States.{endOf, stateOf, Sound, Declared};
+ghost use Rattle.declarations.specs.Declares.{Gives};
+ghost use Rattle.declarations.specs.Allocations.{allocationOf};
 ghost use Rattle.declarations.specs.Forms.{headingIn, bodyIn, procedureIn, accumulatorIn};
-ghost use Rattle.declarations.specs.Procedures.{Bodied};
-use crate::Answer;
-use crate::Ends;
+ghost use Rattle.declarations.specs.Contracts.{Ready, ReadyForName, Allocates, EmitsBody};
+use crate::Allocation;
+use crate::AllocationAnswer;
 use crate::NameAnswer;
-use crate::State;
+use crate::SectorEnds;
 use crate::frames::frame;
 use crate::globals::declare_global;
 use crate::globals::global_name;
-use crate::limits::ended;
+use crate::limits::end_then_expect;
 use crate::sectors::end_of;
-use cells::Part;
-use cells::expect;
 use emitter::Context;
 use emitter::emit_return;
+use parser::Part;
+use parser::expect;
 use source::kind::BEGIN;
 use source::kind::PROCEDURE;
 use source::kind::SEMICOLON;
@@ -28,12 +25,12 @@ use symbols::Packed;
 use symbols::Symbol;
 
 // A procedure up to its `.BEGIN`.
-fn heading(source: &[u8], table: &[u16], state: State, at: usize) -> NameAnswer
-    requires { ⌜ Sound state × (3584 ≤ length (now table)) ⌝ }
+fn heading(source: &[u8], table: &[u16], allocation: Allocation, at: usize) -> NameAnswer
+    requires { ⌜ Ready allocation (now table) ⌝ }
     ensures { λ r. ⌜ Gives (r .part) (unpack (r .name))
-        (headingIn (now (source .entry)) (stateOf state (now (table .entry)) .scope) at) ⌝ }
+        (headingIn (now (source .entry)) (allocationOf allocation (now (table .entry)) .scope) at) ⌝ }
 {
-    let named = global_name(source, table, state, at);
+    let named = global_name(source, table, allocation, at);
     let part = named.part;
     let name = named.name;
     let Part::Read { next } = part else {
@@ -55,25 +52,25 @@ fn body(
     table: &mut [u16],
     image: &mut [u16],
     pool: u16,
-    state: State,
+    allocation: Allocation,
     name: Packed,
     at: usize,
-) -> expressions::Answer
-    requires { ⌜ Sound state × (3584 ≤ length (now table)) × (state .names + 1 ≤ 512) ⌝ }
-    ensures { λ r. ⌜ Declares (Bodied state (now (table .entry)) (now (image .entry)) pool (unpack name) (r .output) (now (table .exit)) (now (image .exit))) (r .part)
-        (bodyIn (now (source .entry)) (stateOf state (now (table .entry)) .scope) (unpack name) at) ⌝ }
+) -> expressions::OutputAnswer
+    requires { ⌜ ReadyForName allocation (now table) ⌝ }
+    ensures { λ r. ⌜ EmitsBody allocation (now (table .entry)) (now (image .entry)) pool name r (now (table .exit)) (now (image .exit))
+        (bodyIn (now (source .entry)) (allocationOf allocation (now (table .entry)) .scope) (unpack name) at) ⌝ }
 {
-    let before = frame(source, table, image, state, name, at);
+    let before = frame(source, table, image, allocation, name, at);
     let part = before.part;
     let output = before.output;
     let Part::Read { next } = part else {
-        return expressions::Answer { part, output };
+        return expressions::OutputAnswer { part, output };
     };
     let link = before.link;
     let context = Context {
         names: before.names,
         pool,
-        locals: state.output.code,
+        locals: allocation.output.next,
     };
     let inside = statements(source, table, image, context, next, output);
     let part = inside.part;
@@ -81,7 +78,7 @@ fn body(
     let Part::Read { next: _ } = part else {
         return inside;
     };
-    expressions::Answer {
+    expressions::OutputAnswer {
         part,
         output: emit_return(image, after, link),
     }
@@ -92,39 +89,40 @@ pub fn procedure(
     source: &[u8],
     table: &mut [u16],
     image: &mut [u16],
-    plan: Ends,
-    state: State,
+    plan: SectorEnds,
+    allocation: Allocation,
     accumulator: bool,
     at: usize,
-) -> Answer
-    requires { ⌜ Sound state × (3584 ≤ length (now table)) ⌝ }
-    ensures { λ r. ⌜ Declares (Declared (endOf plan) state (now (table .entry)) (now (image .entry)) (r .state) (now (table .exit)) (now (image .exit))) (r .part) (procedureIn (now (source .entry)) (stateOf state (now (table .entry))) accumulator at) ⌝ }
+) -> AllocationAnswer
+    requires { ⌜ Ready allocation (now table) ⌝ }
+    ensures { λ r. ⌜ Allocates allocation (now (table .entry)) (now (image .entry)) plan r (now (table .exit)) (now (image .exit))
+        (procedureIn (now (source .entry)) (allocationOf allocation (now (table .entry))) accumulator at) ⌝ }
 {
-    let named = heading(source, table, state, at);
+    let named = heading(source, table, allocation, at);
     let part = named.part;
     let name = named.name;
     let Part::Read { next } = part else {
-        return Answer { part, state };
+        return AllocationAnswer { part, allocation };
     };
-    let ends = state.ends;
-    let inside = body(source, table, image, end_of(plan, ends), state, name, next);
+    let pool = end_of(plan, allocation.sectors);
+    let inside = body(source, table, image, pool, allocation, name, next);
     let part = inside.part;
     let output = inside.output;
     let Part::Read { next } = part else {
-        return Answer { part, state };
+        return AllocationAnswer { part, allocation };
     };
-    let part = ended(source, output, ends.count, state.array, SEMICOLON, next);
+    let closed = allocation.sectors.count;
+    let array = allocation.array;
+    let part = end_then_expect(source, output, closed, array, SEMICOLON, next);
     let Part::Read { next: _ } = part else {
-        return Answer { part, state };
+        return AllocationAnswer { part, allocation };
     };
     let symbol = Symbol::Procedure {
-        number: state.words,
+        number: allocation.taken,
         accumulator,
     };
-    Answer {
-        part,
-        state: declare_global(table, state, output, state.array, name, symbol),
-    }
+    let allocation = declare_global(table, allocation, output, array, name, symbol);
+    AllocationAnswer { part, allocation }
 }
 
 // The same after `.ACCUMULATOR`.
@@ -132,16 +130,17 @@ pub fn accumulator(
     source: &[u8],
     table: &mut [u16],
     image: &mut [u16],
-    plan: Ends,
-    state: State,
+    plan: SectorEnds,
+    allocation: Allocation,
     at: usize,
-) -> Answer
-    requires { ⌜ Sound state × (3584 ≤ length (now table)) ⌝ }
-    ensures { λ r. ⌜ Declares (Declared (endOf plan) state (now (table .entry)) (now (image .entry)) (r .state) (now (table .exit)) (now (image .exit))) (r .part) (accumulatorIn (now (source .entry)) (stateOf state (now (table .entry))) at) ⌝ }
+) -> AllocationAnswer
+    requires { ⌜ Ready allocation (now table) ⌝ }
+    ensures { λ r. ⌜ Allocates allocation (now (table .entry)) (now (image .entry)) plan r (now (table .exit)) (now (image .exit))
+        (accumulatorIn (now (source .entry)) (allocationOf allocation (now (table .entry))) at) ⌝ }
 {
     let part = expect(source, PROCEDURE, at);
     let Part::Read { next } = part else {
-        return Answer { part, state };
+        return AllocationAnswer { part, allocation };
     };
-    procedure(source, table, image, plan, state, true, next)
+    procedure(source, table, image, plan, allocation, true, next)
 }

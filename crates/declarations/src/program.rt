@@ -2,33 +2,36 @@
 ghost use mathlib.Core.Path.{_≡_};
 ghost use Prim.Native.Nat.{_≤_};
 ghost use lib.ListN.{length};
-ghost use Rattle.syntax.specs.Declarations.{parseDeclarations};
-ghost use Rattle.declarations.specs.Declares.{Declares};
-ghost use Rattle.declarations.specs.States.{endOf, stateOf, Sound, Declared};
+ghost use Rattle.grammar.specs.Declarations.{parseDeclarations};
+ghost use Rattle.declarations.specs.Allocations.{allocationOf};
 ghost use Rattle.declarations.specs.Forms as forms;
-ghost use Rattle.declarations.specs.Procedures.{mainIn, Finished, Starts, programIn, Compiled, Programs};
-use crate::Answer;
-use crate::Ends;
+ghost use Rattle.declarations.specs.Procedures.{mainIn, AtStart, programIn, Programs};
+ghost use Rattle.declarations.specs.Contracts.{Ready, Allocates, EmitsMain, CompilesProgram};
+ghost use Rattle.declarations.specs.Scopes.{tableWords};
+use crate::Allocation;
+use crate::AllocationAnswer;
+use crate::KeywordFound;
 use crate::ProgramAnswer;
-use crate::State;
-use crate::WordFound;
+use crate::SectorEnds;
 use crate::arrays::arrays;
 use crate::globals::global_items;
-use crate::limits::ended;
-use crate::lists::item_word;
+use crate::limits::end_then_expect;
+use crate::lists::item_keyword;
 use crate::procedures::accumulator;
 use crate::procedures::procedure;
 use crate::sectors::end_of;
 use crate::sectors::next_sector;
 use crate::sectors::store_pool;
-use cells::Part;
-use cells::expect;
-use cells::failures::SHORT_SCRATCH;
 use emitter::Context;
 use emitter::Output;
 use emitter::emit_generic;
 use emitter::empty_pool;
 use instruction::slot::HLT;
+use layout::addresses::FIRST_ARRAY;
+use layout::addresses::FIRST_CODE;
+use parser::Part;
+use parser::expect;
+use parser::failures::SHORT_SCRATCH;
 use source::Token;
 use source::kind::ACCUMULATOR;
 use source::kind::ARRAY;
@@ -39,11 +42,6 @@ use source::kind::NEXTSECTOR;
 use source::kind::PROCEDURE;
 use source::token_at;
 use statements::statements;
-
-// The first word of code, and element 0 of the first array.
-const FIRST_CODE: u16 = 0o1000;
-
-const FIRST_ARRAY: u16 = 16383;
 
 // The words of a table of 512 names.
 const TABLE_WORDS: usize = 3584;
@@ -60,28 +58,29 @@ fn declaration(
     source: &[u8],
     table: &mut [u16],
     image: &mut [u16],
-    plan: Ends,
-    state: State,
+    plan: SectorEnds,
+    allocation: Allocation,
     t: Token,
-) -> Answer
-    requires { ⌜ Sound state × (3584 ≤ length (now table)) ⌝ }
-    ensures { λ r. ⌜ Declares (Declared (endOf plan) state (now (table .entry)) (now (image .entry)) (r .state) (now (table .exit)) (now (image .exit))) (r .part) (forms.declarationIn (now (source .entry)) (stateOf state (now (table .entry))) t) ⌝ }
+) -> AllocationAnswer
+    requires { ⌜ Ready allocation (now table) ⌝ }
+    ensures { λ r. ⌜ Allocates allocation (now (table .entry)) (now (image .entry)) plan r (now (table .exit)) (now (image .exit))
+        (forms.declarationIn (now (source .entry)) (allocationOf allocation (now (table .entry))) t) ⌝ }
 {
     let kind = t.kind;
-    let found = item_word(kind);
-    if let WordFound::Word { word } = found {
-        return global_items(source, table, image, state, word, t.next);
+    let found = item_keyword(kind);
+    if let KeywordFound::Keyword { keyword } = found {
+        return global_items(source, table, image, allocation, keyword, t.next);
     }
     if kind == ARRAY {
-        return arrays(source, table, image, state, t.next);
+        return arrays(source, table, image, allocation, t.next);
     }
     if kind == NEXTSECTOR {
-        return next_sector(source, image, state, t);
+        return next_sector(source, image, allocation, t);
     }
     if kind == PROCEDURE {
-        return procedure(source, table, image, plan, state, false, t.next);
+        return procedure(source, table, image, plan, allocation, false, t.next);
     }
-    accumulator(source, table, image, plan, state, t.next)
+    accumulator(source, table, image, plan, allocation, t.next)
 }
 
 // Any declarations, from the start.
@@ -89,28 +88,29 @@ fn declarations(
     source: &[u8],
     table: &mut [u16],
     image: &mut [u16],
-    plan: Ends,
-    state: State,
+    plan: SectorEnds,
+    allocation: Allocation,
     at: usize,
-) -> Answer
-    requires { ⌜ Starts state × (3584 ≤ length (now table)) ⌝ }
-    ensures { λ r. ⌜ Declares (Declared (endOf plan) state (now (table .entry)) (now (image .entry)) (r .state) (now (table .exit)) (now (image .exit))) (r .part) (parseDeclarations (now (source .entry)) at) ⌝ }
+) -> AllocationAnswer
+    requires { ⌜ AtStart allocation × (tableWords ≤ length (now table)) ⌝ }
+    ensures { λ r. ⌜ Allocates allocation (now (table .entry)) (now (image .entry)) plan r (now (table .exit)) (now (image .exit))
+        (parseDeclarations (now (source .entry)) at) ⌝ }
 {
-    let mut current = state;
+    let mut current = allocation;
     let mut from = at;
     let mut left = source.len();
     loop {
         let t = token_at(source, from);
         if left == 0 {
-            return Answer {
+            return AllocationAnswer {
                 part: Part::Read { next: from },
-                state: current,
+                allocation: current,
             };
         }
         if !begins(t.kind) {
-            return Answer {
+            return AllocationAnswer {
                 part: Part::Read { next: from },
-                state: current,
+                allocation: current,
             };
         }
         let one = declaration(source, table, image, plan, current, t);
@@ -118,8 +118,7 @@ fn declarations(
         let Part::Read { next } = part else {
             return one;
         };
-        let after = one.state;
-        current = after;
+        current = one.allocation;
         from = next;
         left -= 1;
     }
@@ -130,20 +129,21 @@ fn main_body(
     source: &[u8],
     table: &[u16],
     image: &mut [u16],
-    plan: Ends,
-    state: State,
+    plan: SectorEnds,
+    allocation: Allocation,
     at: usize,
-) -> expressions::Answer
-    requires { ⌜ Sound state × (3584 ≤ length (now table)) ⌝ }
-    ensures { λ r. ⌜ Declares (Finished plan state (now (table .entry)) (now (image .entry)) (r .output) (now (image .exit))) (r .part) (mainIn (now (source .entry)) (stateOf state (now (table .entry))) at) ⌝ }
+) -> expressions::OutputAnswer
+    requires { ⌜ Ready allocation (now table) ⌝ }
+    ensures { λ r. ⌜ EmitsMain allocation (now (table .entry)) (now (image .entry)) plan r (now (image .exit))
+        (mainIn (now (source .entry)) (allocationOf allocation (now (table .entry))) at) ⌝ }
 {
-    let output = state.output;
-    let ends = state.ends;
-    let sectors = ends.count;
+    let output = allocation.output;
+    let sectors = allocation.sectors;
+    let closed = sectors.count;
     let context = Context {
-        names: state.names,
-        pool: end_of(plan, ends),
-        locals: output.code,
+        names: allocation.names,
+        pool: end_of(plan, sectors),
+        locals: output.next,
     };
     let inside = statements(source, table, image, context, at, output);
     let part = inside.part;
@@ -152,53 +152,57 @@ fn main_body(
         return inside;
     };
     let last = emit_generic(image, after, HLT);
-    let part = ended(source, last, sectors, state.array, END_OF_SOURCE, next);
+    let part = end_then_expect(source, last, closed, allocation.array, END_OF_SOURCE, next);
     let Part::Read { next: _ } = part else {
-        return expressions::Answer { part, output: last };
+        return expressions::OutputAnswer { part, output: last };
     };
     let pool = last.pool;
-    store_pool(image, last.code, pool);
-    expressions::Answer { part, output: last }
+    store_pool(image, last.next, pool);
+    expressions::OutputAnswer { part, output: last }
 }
 
-fn start_state() -> State
-    ensures { λ r. ⌜ Starts r ⌝ }
+fn start_allocation() -> Allocation
+    ensures { λ r. ⌜ AtStart r ⌝ }
 {
     let output = Output {
-        code: FIRST_CODE,
+        next: FIRST_CODE,
         pool: empty_pool(),
     };
-    let ends = Ends {
-        codes: [0u16; 32],
+    let sectors = SectorEnds {
+        ends: [0u16; 32],
         count: 0,
     };
-    State {
+    Allocation {
         names: 0,
-        words: 0,
+        taken: 0,
         output,
-        ends,
+        sectors,
         array: FIRST_ARRAY,
     }
 }
 
 // `.BEGIN`, declarations, the main body.
-fn whole(source: &[u8], table: &mut [u16], image: &mut [u16], plan: Ends) -> ProgramAnswer
-    requires { ⌜ 3584 ≤ length (now table) ⌝ }
-    ensures { λ r. ⌜ Declares (Compiled plan (now (image .entry)) (r .state) (r .end) (now (table .exit)) (now (image .exit))) (r .part) (programIn (now (source .entry))) ⌝ }
+fn whole(source: &[u8], table: &mut [u16], image: &mut [u16], plan: SectorEnds) -> ProgramAnswer
+    requires { ⌜ tableWords ≤ length (now table) ⌝ }
+    ensures { λ r. ⌜ CompilesProgram plan (now (image .entry)) r (now (table .exit)) (now (image .exit)) (programIn (now (source .entry))) ⌝ }
 {
-    let state = start_state();
-    let end = state.output;
+    let allocation = start_allocation();
+    let end = allocation.output;
     let part = expect(source, BEGIN, 0);
-    let Part::Read { next } = part else {
-        return ProgramAnswer { part, state, end };
-    };
-    let all = declarations(source, table, image, plan, state, next);
-    let part = all.part;
-    let after = all.state;
     let Part::Read { next } = part else {
         return ProgramAnswer {
             part,
-            state: after,
+            allocation,
+            end,
+        };
+    };
+    let all = declarations(source, table, image, plan, allocation, next);
+    let part = all.part;
+    let after = all.allocation;
+    let Part::Read { next } = part else {
+        return ProgramAnswer {
+            part,
+            allocation: after,
             end,
         };
     };
@@ -207,13 +211,18 @@ fn whole(source: &[u8], table: &mut [u16], image: &mut [u16], plan: Ends) -> Pro
     let end = main.output;
     ProgramAnswer {
         part,
-        state: after,
+        allocation: after,
         end,
     }
 }
 
 // A program whose length was tested. The pools' addresses are the plan's. A table without room for 512 names is refused, as short scratch is.
-pub fn program(source: &[u8], table: &mut [u16], image: &mut [u16], plan: Ends) -> ProgramAnswer
+pub fn program(
+    source: &[u8],
+    table: &mut [u16],
+    image: &mut [u16],
+    plan: SectorEnds,
+) -> ProgramAnswer
     ensures { λ r. ⌜ Programs plan (now (source .entry)) (now (table .entry)) (now (image .entry)) r (now (table .exit)) (now (image .exit)) ⌝ }
 {
     if table.len() < TABLE_WORDS {
@@ -221,9 +230,13 @@ pub fn program(source: &[u8], table: &mut [u16], image: &mut [u16], plan: Ends) 
             number: SHORT_SCRATCH,
             at: 0,
         };
-        let state = start_state();
-        let end = state.output;
-        return ProgramAnswer { part, state, end };
+        let allocation = start_allocation();
+        let end = allocation.output;
+        return ProgramAnswer {
+            part,
+            allocation,
+            end,
+        };
     }
     whole(source, table, image, plan)
 }

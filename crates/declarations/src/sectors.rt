@@ -2,32 +2,34 @@
 ghost use mathlib.Core.Path.{_≡_};
 ghost use mathlib.Core.List.{[], _∷_};
 ghost use Prim.Native.Nat.{_+_, _≤_};
-ghost use Rattle.syntax.specs.Tree.{Declaration};
-ghost use Rattle.syntax.specs.Limits.{sectorLimit, followLimit};
-ghost use Rattle.emitter.specs.Emitted.{heldBy};
-ghost use Rattle.emitter.specs.Programs.{stored};
-ghost use Rattle.declarations.specs.Declares.{Declares};
-ghost use Rattle.declarations.specs.States.{endOf, stateOf, Sound, Moved};
-ghost use Rattle.declarations.specs.Forms.{judgedIn};
-use crate::Answer;
-use crate::Ends;
-use crate::State;
-use crate::limits::judged;
+ghost use Rattle.tree.specs.Tree.{Declaration};
+ghost use Rattle.layout.specs.Limits.{sectorLimit, followLimit};
+ghost use Rattle.emitter.specs.Emitted.{literalsIn};
+ghost use Rattle.layout.specs.Emission.{stored};
+ghost use Rattle.declarations.specs.Allocations.{endOf, allocationOf, SoundAllocation, SectorClosed};
+ghost use Rattle.declarations.specs.Forms.{limitedIn};
+ghost use Rattle.declarations.specs.Contracts.{ClosesSector};
+use crate::Allocation;
+use crate::AllocationAnswer;
+use crate::SectorEnds;
+use crate::limits::limit_then_expect;
 use crate::limits::sector_limit;
 use crate::with_end;
-use cells::Part;
-use cells::failures;
 use emitter::Output;
 use emitter::Pool;
 use emitter::empty_pool;
 use emitter::held_count;
 use emitter::store;
+use layout::addresses::CLOSED_SECTORS;
+use layout::addresses::SECTOR_WORDS;
+use parser::Part;
+use parser::failures;
 use source::Token;
 use source::kind::SEMICOLON;
 
 // A pool's words from an address on.
 pub fn store_pool(image: &mut [u16], at: u16, pool: Pool)
-    ensures { λ _. ⌜ now (image .exit) ≡ stored (now (image .entry)) at (heldBy pool) ⌝ }
+    ensures { λ _. ⌜ now (image .exit) ≡ stored (now (image .entry)) at (literalsIn pool) ⌝ }
 {
     let words = pool.words;
     let count = held_count(pool);
@@ -39,68 +41,74 @@ pub fn store_pool(image: &mut [u16], at: u16, pool: Pool)
 }
 
 // Where the open sector's code ends by the plan.
-pub fn end_of(plan: Ends, ends: Ends) -> u16
-    requires { ⌜ ends .count ≤ 30 ⌝ }
-    ensures { λ r. ⌜ r ≡ endOf plan (ends .count) ⌝ }
+pub fn end_of(plan: SectorEnds, sectors: SectorEnds) -> u16
+    requires { ⌜ sectors .count ≤ 30 ⌝ }
+    ensures { λ r. ⌜ r ≡ endOf plan (sectors .count) ⌝ }
 {
-    let codes = plan.codes;
-    let sectors = ends.count;
-    codes[sectors]
+    let ends = plan.ends;
+    let closed = sectors.count;
+    ends[closed]
 }
 
 // 12 or 13, or 13 where no sector follows.
-fn next_limit(state: State) -> u16
-    requires { ⌜ Sound state ⌝ }
-    ensures { λ r. ⌜ r ≡ followLimit (stateOf state []) (sectorLimit (stateOf state [])) ⌝ }
+fn next_limit(allocation: Allocation) -> u16
+    requires { ⌜ SoundAllocation allocation ⌝ }
+    ensures { λ r. ⌜ r ≡ followLimit (allocationOf allocation []) (sectorLimit (allocationOf allocation [])) ⌝ }
 {
-    let output = state.output;
-    let sectors = state.ends.count;
-    let limit = sector_limit(output, sectors, state.array);
+    let output = allocation.output;
+    let closed = allocation.sectors.count;
+    let limit = sector_limit(output, closed, allocation.array);
     if limit != 0 {
         return limit;
     }
-    if sectors < 30 {
+    if closed < CLOSED_SECTORS {
         return 0;
     }
     failures::MEMORY_FULL
 }
 
 // The open sector closed, its pool after its code.
-fn close(image: &mut [u16], state: State) -> State
-    requires { ⌜ Sound state × (state .ends .count + 1 ≤ 30) ⌝ }
-    ensures { λ r. ⌜ Moved state (now (image .entry)) r (now (image .exit)) (Declaration.nextSector ∷ []) ⌝ }
+fn close(image: &mut [u16], allocation: Allocation) -> Allocation
+    requires { ⌜ SoundAllocation allocation × (allocation .sectors .count + 1 ≤ 30) ⌝ }
+    ensures { λ r. ⌜ SectorClosed allocation (now (image .entry)) r (now (image .exit)) (Declaration.nextSector ∷ []) ⌝ }
 {
-    let output = state.output;
+    let output = allocation.output;
     let pool = output.pool;
-    let code = output.code;
-    store_pool(image, code, pool);
-    let ends = state.ends;
-    let count = ends.count;
-    let closed = with_end(ends, code);
+    let end = output.next;
+    store_pool(image, end, pool);
+    let sectors = allocation.sectors;
+    let count = sectors.count;
+    let closed = with_end(sectors, end);
     let empty = Output {
-        code: 512 * (count as u16 + 2),
+        next: SECTOR_WORDS * (count as u16 + 2),
         pool: empty_pool(),
     };
-    State {
-        names: state.names,
-        words: state.words,
+    Allocation {
+        names: allocation.names,
+        taken: allocation.taken,
         output: empty,
-        ends: closed,
-        array: state.array,
+        sectors: closed,
+        array: allocation.array,
     }
 }
 
-// `.NEXTSECTOR`, judged, and `;`.
-pub fn next_sector(source: &[u8], image: &mut [u16], state: State, t: Token) -> Answer
-    requires { ⌜ Sound state ⌝ }
-    ensures { λ r. ⌜ Declares (Moved state (now (image .entry)) (r .state) (now (image .exit))) (r .part) (judgedIn (now (source .entry)) (stateOf state []) Declaration.nextSector t) ⌝ }
+// `.NEXTSECTOR`, where the limit of the sector is, and `;`.
+pub fn next_sector(
+    source: &[u8],
+    image: &mut [u16],
+    allocation: Allocation,
+    t: Token,
+) -> AllocationAnswer
+    requires { ⌜ SoundAllocation allocation ⌝ }
+    ensures { λ r. ⌜ ClosesSector allocation (now (image .entry)) r (now (image .exit))
+        (limitedIn (now (source .entry)) (allocationOf allocation []) Declaration.nextSector t) ⌝ }
 {
-    let part = judged(source, t, next_limit(state), SEMICOLON);
+    let part = limit_then_expect(source, t, next_limit(allocation), SEMICOLON);
     let Part::Read { next: _ } = part else {
-        return Answer { part, state };
+        return AllocationAnswer { part, allocation };
     };
-    Answer {
+    AllocationAnswer {
         part,
-        state: close(image, state),
+        allocation: close(image, allocation),
     }
 }

@@ -1,23 +1,21 @@
 // An array's initial values.
 ghost use mathlib.Core.Path.{_≡_};
-ghost use mathlib.Core.List.{[]};
 ghost use Prim.Native.Nat.{_+_, _≤_};
 ghost use lib.ListN.{replicate};
-ghost use Rattle.source.specs.Kinds as kinds;
-ghost use Rattle.syntax.specs.Parse.{parted};
-ghost use Rattle.syntax.specs.Declarations.{parseInitial, parseInitials};
-ghost use Rattle.symbols.specs.Table.{heldBy};
-ghost use Rattle.emitter.specs.Programs.{stored, padded};
+ghost use Rattle.grammar.specs.Declarations.{parseInitials};
+ghost use Rattle.symbols.specs.Table.{liveNames};
+ghost use Rattle.layout.specs.Emission.{stored, padded};
 ghost use Rattle.declarations.specs.Declares.{Declares, Gives};
-ghost use Rattle.declarations.specs.Arrays.{initialValue, Filled};
+ghost use Rattle.declarations.specs.Values.{initialValue, Filled};
+ghost use Rattle.declarations.specs.Contracts.{valueListAt};
 use crate::ValuesAnswer;
 use cells::ConstantAnswer;
-use cells::Part;
 use cells::constant_at;
-use cells::expect;
-use cells::fail_at;
-use cells::failures;
 use emitter::store;
+use parser::Part;
+use parser::expect;
+use parser::fail_at;
+use parser::failures;
 use source::kind::COMMA;
 use source::kind::LEFT_PARENTHESIS;
 use source::kind::RIGHT_PARENTHESIS;
@@ -45,7 +43,7 @@ fn initial_value(
     at: usize,
 ) -> ConstantAnswer
     ensures { λ r. ⌜ Gives (r .part) (r .value)
-        (initialValue (now (source .entry)) (heldBy names (now (table .entry))) size count at) ⌝ }
+        (initialValue (now (source .entry)) (liveNames names (now (table .entry))) size count at) ⌝ }
 {
     let one = constant_at(source, table, names, at);
     let part = one.part;
@@ -62,7 +60,7 @@ fn initial_value(
     one
 }
 
-// Initial values parted by commas, stored from an address on.
+// Initial values separated by commas, stored from an address on.
 fn values(
     source: &[u8],
     table: &[u16],
@@ -74,7 +72,7 @@ fn values(
 ) -> ValuesAnswer
     requires { ⌜ first + size ≤ 65536 ⌝ }
     ensures { λ r. ⌜ Declares (Filled first size (now (image .entry)) (r .count) (now (image .exit))) (r .part)
-        (parted (now (source .entry)) kinds.comma (parseInitial (now (source .entry)) (heldBy names (now (table .entry))) size []) (parseInitial (now (source .entry)) (heldBy names (now (table .entry))) size) at) ⌝ }
+        (valueListAt (now (source .entry)) (liveNames names (now (table .entry))) size at) ⌝ }
 {
     let mut count: u16 = 0;
     let mut from = at;
@@ -110,7 +108,8 @@ pub fn initials(
     at: usize,
 ) -> Part
     requires { ⌜ first + size ≤ 65536 ⌝ }
-    ensures { λ r. ⌜ Declares (λ vs. now (image .exit) ≡ stored (now (image .entry)) first (padded size vs)) r (parseInitials (now (source .entry)) (heldBy names (now (table .entry))) size at) ⌝ }
+    ensures { λ r. ⌜ Declares (λ vs. now (image .exit) ≡ stored (now (image .entry)) first (padded size vs)) r
+        (parseInitials (now (source .entry)) (liveNames names (now (table .entry))) size at) ⌝ }
 {
     let t = token_at(source, at);
     if t.kind != LEFT_PARENTHESIS {

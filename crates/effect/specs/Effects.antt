@@ -1,4 +1,4 @@
--- What instructions do to A and C, as document 01's "Order table" has it. The semantics of the language acts through these. Assumes nothing.
+-- What instructions do to A and C, as document 01's "Order table" has it. The semantics of the language acts through these.
 use Prim.Native.Nat.{ℕ, _+_, _-_, _%_}
 use mathlib.Core.Bool.{cond}
 use lib.Dec.{eqb, leb}
@@ -6,19 +6,19 @@ use lib.Bits.{bitAnd, bitXor}
 use Rattle.word.specs.Arithmetic.{flagged, bit, sumOf, differenceOf}
 use Rattle.word.specs.Bytes.{icaOf, calOf, carOf, icrOf, iclOf}
 use Rattle.word.specs.Shift.{shiftOf}
-use Rattle.instruction.specs.Code.{LDA, ANA, ERA, ADD, SUB}
+use Rattle.instruction.specs.Opcode.{LDA, ANA, ERA, ADD, SUB}
 use Rattle.instruction.specs.Slot.{CRA, CMA, TCA, CHS, SSP, SSM, CSA, CAR, CAL, ICL, AOA, ACA, ICR, ICA}
 use Rattle.effect.specs.declared.Registers.{Registers}
 use Rattle.effect.specs.Registers.{withA, withFlagged}
 
 -- with the operand v. "ADD, SUB, AOA and ACA are modulo 65,536; C becomes 1 exactly on signed overflow, else 0", "The rest leave C"
 unfoldable pub operateOf : ℕ → ℕ → Registers → Registers
-operateOf code v r =
-    cond (eqb code LDA) (withA r v)
-    (cond (eqb code ANA) (withA r (bitAnd (r .a) v))
-    (cond (eqb code ERA) (withA r (bitXor (r .a) v))
-    (cond (eqb code ADD) (withFlagged r (sumOf (r .a) v))
-    (cond (eqb code SUB) (withFlagged r (differenceOf (r .a) v))
+operateOf opcode v r =
+    cond (eqb opcode LDA) (withA r v)
+    (cond (eqb opcode ANA) (withA r (bitAnd (r .a) v))
+    (cond (eqb opcode ERA) (withA r (bitXor (r .a) v))
+    (cond (eqb opcode ADD) (withFlagged r (sumOf (r .a) v))
+    (cond (eqb opcode SUB) (withFlagged r (differenceOf (r .a) v))
     r))))
 
 -- the generic instructions on A and C

@@ -1,5 +1,5 @@
 -- The effects by example: every generic instruction and every shift by each amount, on words whose signs, bytes and bits differ. The results were worked out
--- bit by bit from document 01's "Order table", apart from the definitions. Decided by computation. Assumes nothing.
+-- bit by bit from document 01's "Order table", apart from the definitions. Decided by computation.
 use Prim.Native.Nat.{ℕ}
 use mathlib.Core.Path.{_≡_, refl}
 use mathlib.Core.Bool.{Bool, true, false}
@@ -7,7 +7,7 @@ use mathlib.Core.List.{List, [], _∷_, map}
 use Rattle.word.specs.Arithmetic.{flagged, sumOf, differenceOf}
 use Rattle.word.specs.Shift.{LGR, ARS, ARR, LGL, ALS, ALR, signChanges, shiftOf}
 use Rattle.word.specs.declared.Flagged.{Flagged}
-use Rattle.instruction.specs.Code.{LDA, ANA, ERA, ADD, SUB}
+use Rattle.instruction.specs.Opcode.{LDA, ANA, ERA, ADD, SUB}
 use Rattle.instruction.specs.Slot.{SKP, NOP, SRC, SSC, SS1, SS2, SS3, SS4, SSS, SSR, SZE, SNZ, SPL, SMI, SLZ, SLN, CRA, CMA, TCA, CHS, SSP, SSM, CSA, CAR, CAL, ICL, AOA, ACA, ICR, ICA}
 use Rattle.effect.specs.declared.Registers.{Registers}
 use Rattle.effect.specs.declared.Switches.{Switches}

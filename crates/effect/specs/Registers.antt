@@ -1,4 +1,4 @@
--- The registers that instructions work on: A, B and C. Assumes nothing.
+-- The registers that instructions work on: A, B and C.
 use Prim.Native.Nat.{ℕ}
 use Rattle.word.specs.declared.Flagged.{Flagged}
 use Rattle.effect.specs.declared.Registers.{Registers}

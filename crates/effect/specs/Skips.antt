@@ -1,4 +1,4 @@
--- Which generic instructions skip the next word, as document 01's "Order table" names them. Assumes nothing.
+-- Which generic instructions skip the next word, as document 01's "Order table" names them.
 use Prim.Native.Nat.{ℕ, _%_}
 use mathlib.Core.Bool.{Bool, true, false, cond, not}
 use lib.Dec.{eqb, leb, ltb}

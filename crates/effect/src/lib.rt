@@ -5,7 +5,7 @@ ghost use Rattle.word.specs.Arithmetic.{bit, sumOf};
 ghost use Rattle.effect.specs.Registers.{withA, withFlagged};
 ghost use Rattle.effect.specs.Effects.{operateOf, unaryOf, shiftedOf};
 ghost use Rattle.effect.specs.Skips.{anySwitch, skipsOf};
-use instruction::code;
+use instruction::opcode;
 use instruction::slot;
 use word::Flagged;
 
@@ -39,17 +39,17 @@ fn with_flagged(r: Registers, f: Flagged) -> Registers
     }
 }
 
-// LDA, ANA, ERA, ADD and SUB with the operand v; any other code changes nothing.
-pub fn operate(code: u16, v: u16, r: Registers) -> Registers
-    ensures { λ s. ⌜ s ≡ operateOf code v r ⌝ }
+// LDA, ANA, ERA, ADD and SUB with the operand v; any other opcode changes nothing.
+pub fn operate(opcode: u16, v: u16, r: Registers) -> Registers
+    ensures { λ s. ⌜ s ≡ operateOf opcode v r ⌝ }
 {
     let a = r.a;
-    match code {
-        code::LDA => with_a(r, v),
-        code::ANA => with_a(r, a & v),
-        code::ERA => with_a(r, a ^ v),
-        code::ADD => with_flagged(r, word::sum(a, v)),
-        code::SUB => with_flagged(r, word::difference(a, v)),
+    match opcode {
+        opcode::LDA => with_a(r, v),
+        opcode::ANA => with_a(r, a & v),
+        opcode::ERA => with_a(r, a ^ v),
+        opcode::ADD => with_flagged(r, word::sum(a, v)),
+        opcode::SUB => with_flagged(r, word::difference(a, v)),
         _ => r,
     }
 }

@@ -1,4 +1,4 @@
--- Emission of one part after another, and forward jumps filled in. Assumes nothing.
+-- Emission of one part after another, and forward jumps filled in.
 use Prim.Native.Nat.{ℕ, suc, _+_, _≤_, _<_}
 use mathlib.Core.Path.{_≡_, refl, sym, ap, _∙_}
 use mathlib.Core.Bool.{Bool, true, false}
@@ -8,13 +8,13 @@ use borrow.Author.Tests.{lt-ltb, ltb-true, ltb-false}
 use lib.ListN.{length, set, length-set}
 use lib.Seq.{set-set, set-comm, sets, getD-set-other}
 use lib.Dec.{ltb}
-use Rattle.source.specs.Bytes.{whether}
-use Rattle.instruction.specs.Code.{JMP}
-use Rattle.syntax.specs.Emission.{Sym, _⧺_}
-use Rattle.syntax.specs.Pool.{literalOf}
-use Rattle.emission.specs.Map.{reference, wordOf}
-use Rattle.emitter.specs.Emitted.{Emitted, lastAddress, nextAddress, withWord, withLiterals, Bases, frameOf, emitWord, emitAll}
-use Rattle.emitter.specs.Lays.{Code, Kept, Lays, Holed, filled}
+use Rattle.prelude.specs.Choice.{whether}
+use Rattle.instruction.specs.Opcode.{JMP}
+use Rattle.layout.specs.Words.{Sym, _⧺_}
+use Rattle.layout.specs.Pool.{literalOf}
+use Rattle.layout.specs.Map.{reference, wordOf}
+use Rattle.layout.specs.Emission.{Emitted, lastAddress, nextAddress, withWord, withLiterals, Bases, frameOf, emitWord, emitAll}
+use Rattle.emitter.specs.Lays.{WordsAt, Kept, Lays, ForwardJump, filled}
 
 -- ---- Runs of words
 
@@ -62,15 +62,15 @@ next-step at = go (ltb at lastAddress)
     go false = omega arith
 
 module _ (f : Bases) where
-  word-code : (a : Emitted) (w : Sym) → emitWord f a w .code ≡ nextAddress (a .code)
+  word-next : (a : Emitted) (w : Sym) → emitWord f a w .next ≡ nextAddress (a .next)
   unfolding emitWord withWord
-  word-code a w = refl
+  word-next a w = refl
 
-  word-below : (a : Emitted) (w : Sym) → emitWord f a w .code < lastAddress → emitWord f a w .code ≡ a .code + 1
+  word-below : (a : Emitted) (w : Sym) → emitWord f a w .next < lastAddress → emitWord f a w .next ≡ a .next + 1
   word-below a w h =
-      let d = word-code a w in
-      let g = next-grows (a .code) in
-      let e = next-below (a .code) (omega (arith, d, g, h)) in
+      let d = word-next a w in
+      let g = next-grows (a .next) in
+      let e = next-below (a .next) (omega (arith, d, g, h)) in
       omega (arith, d, e)
 
 -- ---- What is kept
@@ -79,7 +79,7 @@ pub kept-here : {a : Emitted} → Kept a a
 kept-here = record { long = refl; below = λ k l. refl; grows = omega arith }
 
 -- no store, at an address further on
-pub kept-upto : {a : Emitted} {end : ℕ} → a .code ≤ end → Kept a (record { image = a .image; code = end; pool = a .pool })
+pub kept-upto : {a : Emitted} {end : ℕ} → a .next ≤ end → Kept a (record { image = a .image; next = end; pool = a .pool })
 kept-upto h = record { long = refl; below = λ k l. refl; grows = h }
 
 pub kept-then : {a b c : Emitted} → Kept a b → Kept b c → Kept a c
@@ -91,19 +91,19 @@ kept-then p q =
     }
 
 -- a store at the address or above
-pub kept-set : {a b : Emitted} (i v : ℕ) → a .code ≤ i → Kept a b → Kept a (record { image = set (b .image) i v; code = b .code; pool = b .pool })
+pub kept-set : {a b : Emitted} (i v : ℕ) → a .next ≤ i → Kept a b → Kept a (record { image = set (b .image) i v; next = b .next; pool = b .pool })
 kept-set {a} {b} i v h p =
     record { long = simp length-set (p .long); below = λ k l. getD-set-other (b .image) i k v 0 (λ q. omega (arith, h, l, q)) ∙ p .below k l; grows = p .grows }
 
-pub kept-sets : {a b : Emitted} (i : ℕ) (vs : List ℕ) → a .code ≤ i → Kept a b → Kept a (record { image = sets (b .image) i vs; code = b .code; pool = b .pool })
+pub kept-sets : {a b : Emitted} (i : ℕ) (vs : List ℕ) → a .next ≤ i → Kept a b → Kept a (record { image = sets (b .image) i vs; next = b .next; pool = b .pool })
 kept-sets i [] h p = p
 kept-sets i (v ∷ vs) h p = kept-sets (suc i) vs (omega (arith, h)) (kept-set i v h p)
 
 kept-word : (f : Bases) (a : Emitted) (w : Sym) → Kept a (emitWord f a w)
 unfolding emitWord withWord
 kept-word f a w =
-    let k = kept-set {a = a} {b = a} (a .code) (wordOf (frameOf f (withLiterals (a .pool) (literalOf w []))) w) (omega arith) kept-here in
-    record { long = k .long; below = k .below; grows = next-grows (a .code) }
+    let k = kept-set {a = a} {b = a} (a .next) (wordOf (frameOf f (withLiterals (a .pool) (literalOf w []))) w) (omega arith) kept-here in
+    record { long = k .long; below = k .below; grows = next-grows (a .next) }
 
 module _ {f : Bases} where
   -- no words
@@ -115,12 +115,12 @@ module _ {f : Bases} where
   pub word : {a : Emitted} (w : Sym) → Lays f a (emitWord f a w) (λ _. w ∷ [])
   unfolding emitAll
   word {a} w =
-      let d = word-code f a w in
-      let s = next-step (a .code) in
+      let d = word-next f a w in
+      let s = next-step (a .next) in
       record { kept = kept-word f a w; fits = λ _. refl; counts = word-below f a w; over = λ h. omega (arith, d, s, h) }
 
   -- one part after another
-  pub sequence : {a b c : Emitted} {u v : Code} → Lays f a b u → Lays f b c v → Lays f a c (λ at. u at ⧺ v (at + length (u at)))
+  pub sequence : {a b c : Emitted} {u v : WordsAt} → Lays f a b u → Lays f b c v → Lays f a c (λ at. u at ⧺ v (at + length (u at)))
   sequence {a} {b} {c} {u} {v} p q =
       record {
         kept = kept-then (p .kept) (q .kept);
@@ -130,40 +130,43 @@ module _ {f : Bases} where
       }
     where
       second : List Sym
-      second = v (a .code + length (u (a .code)))
+      second = v (a .next + length (u (a .next)))
 
-      below : c .code < lastAddress → b .code < lastAddress
+      below : c .next < lastAddress → b .next < lastAddress
       below h = let g = q .kept .grows in omega (arith, g, h)
 
-      total : length (u (a .code) ⧺ second) ≡ length (u (a .code)) + length second
-      total = append-length (u (a .code)) second
+      total : length (u (a .next) ⧺ second) ≡ length (u (a .next)) + length second
+      total = append-length (u (a .next)) second
 
-      moved : b .code < lastAddress → v (b .code) ≡ second
+      moved : b .next < lastAddress → v (b .next) ≡ second
       moved h = ap v (p .counts h)
 
-      fits-both : c .code < lastAddress → b .code < lastAddress → c ≡ emitAll f a (u (a .code) ⧺ second)
-      fits-both h k = q .fits h ∙ ap (emitAll f b) (moved k) ∙ ap (λ e. emitAll f e second) (p .fits k) ∙ sym (emit-append f a (u (a .code)) second)
+      fits-both : c .next < lastAddress → b .next < lastAddress → c ≡ emitAll f a (u (a .next) ⧺ second)
+      fits-both h k = q .fits h ∙ ap (emitAll f b) (moved k) ∙ ap (λ e. emitAll f e second) (p .fits k) ∙ sym (emit-append f a (u (a .next)) second)
 
-      counts-both : c .code < lastAddress → b .code < lastAddress → c .code ≡ a .code + length (u (a .code) ⧺ second)
+      counts-both : c .next < lastAddress → b .next < lastAddress → c .next ≡ a .next + length (u (a .next) ⧺ second)
       counts-both h k = let n = q .counts h in let m = p .counts k in let l = ap length (moved k) in omega (arith, n, m, l, total)
 
-      over-both : lastAddress ≤ c .code → lastAddress ≤ a .code + length (u (a .code) ⧺ second)
-      over-both h = go (ltb (b .code) lastAddress) refl
+      over-both : lastAddress ≤ c .next → lastAddress ≤ a .next + length (u (a .next) ⧺ second)
+      over-both h = go (ltb (b .next) lastAddress) refl
         where
-          go : (t : Bool) → ltb (b .code) lastAddress ≡ t → lastAddress ≤ a .code + length (u (a .code) ⧺ second)
-          go true e = let k : b .code < lastAddress = ltb-true _ _ e in let o = q .over h in let l = ap length (moved k) in let m = p .counts k in omega (arith, o, l, m, total)
-          go false e = let k : lastAddress ≤ b .code = ltb-false _ _ e in let o = p .over k in omega (arith, o, total)
+          go : (t : Bool) → ltb (b .next) lastAddress ≡ t → lastAddress ≤ a .next + length (u (a .next) ⧺ second)
+          go true e = let k : b .next < lastAddress = ltb-true _ _ e in let o = q .over h in let l = ap length (moved k) in let m = p .counts k in omega (arith, o, l, m, total)
+          go false e = let k : lastAddress ≤ b .next = ltb-false _ _ e in let o = p .over k in omega (arith, o, total)
 
-  -- the same words, put otherwise
-  pub same : {a b : Emitted} {u v : Code} → ((at : ℕ) → u at ≡ v at) → Lays f a b u → Lays f a b v
-  same {a} {b} {u} {v} e p =
-      let l = ap length (e (a .code)) in
+  -- the same words, put otherwise: where they stand, or wherever they stand
+  pub same-here : {a b : Emitted} {u v : WordsAt} → u (a .next) ≡ v (a .next) → Lays f a b u → Lays f a b v
+  same-here {a} {b} {u} {v} e p =
+      let l = ap length e in
       record {
         kept = p .kept;
-        fits = λ h. p .fits h ∙ ap (emitAll f a) (e (a .code));
+        fits = λ h. p .fits h ∙ ap (emitAll f a) e;
         counts = λ h. let n = p .counts h in omega (arith, n, l);
         over = λ h. let n = p .over h in omega (arith, n, l);
       }
+
+  pub same : {a b : Emitted} {u v : WordsAt} → ((at : ℕ) → u at ≡ v at) → Lays f a b u → Lays f a b v
+  same {a} {b} {u} {v} e p = same-here {u = u} {v = v} (e (a .next)) p
 
   -- words that do not depend on where they stand
   pub words : {a : Emitted} (ws : List Sym) → Lays f a (emitAll f a ws) (λ _. ws)
@@ -175,39 +178,39 @@ module _ {f : Bases} where
 
 module _ (f : Bases) where
   -- a word below the next address can be stored before or after
-  set-word : (e : Emitted) (i v : ℕ) (w : Sym) → i < e .code
-      → emitWord f (record { image = set (e .image) i v; code = e .code; pool = e .pool }) w
-      ≡ record { image = set (emitWord f e w .image) i v; code = emitWord f e w .code; pool = emitWord f e w .pool }
+  set-word : (e : Emitted) (i v : ℕ) (w : Sym) → i < e .next
+      → emitWord f (record { image = set (e .image) i v; next = e .next; pool = e .pool }) w
+      ≡ record { image = set (emitWord f e w .image) i v; next = emitWord f e w .next; pool = emitWord f e w .pool }
   unfolding emitWord withWord
-  set-word e i v w h = rw (set-comm (e .image) i (e .code) v _ (λ q. omega (arith, h, q)))
+  set-word e i v w h = rw (set-comm (e .image) i (e .next) v _ (λ q. omega (arith, h, q)))
 
-  set-all : (e : Emitted) (i v : ℕ) (ws : List Sym) → i < e .code
-      → emitAll f (record { image = set (e .image) i v; code = e .code; pool = e .pool }) ws
-      ≡ record { image = set (emitAll f e ws .image) i v; code = emitAll f e ws .code; pool = emitAll f e ws .pool }
+  set-all : (e : Emitted) (i v : ℕ) (ws : List Sym) → i < e .next
+      → emitAll f (record { image = set (e .image) i v; next = e .next; pool = e .pool }) ws
+      ≡ record { image = set (emitAll f e ws .image) i v; next = emitAll f e ws .next; pool = emitAll f e ws .pool }
   unfolding emitAll
   set-all e i v [] h = refl
   set-all e i v (w ∷ ws) h =
-      let g = next-grows (e .code) in
-      let d = word-code f e w in
+      let g = next-grows (e .next) in
+      let d = word-next f e w in
       ap (λ x. emitAll f x ws) (set-word e i v w h) ∙ set-all (emitWord f e w) i v ws (omega (arith, d, g, h))
 
-  set-jump : (e : Emitted) (z : ℕ) → emitWord f e (Sym.jump z) ≡ record { image = set (emitWord f e (Sym.jump 0) .image) (e .code) (reference JMP false z); code = emitWord f e (Sym.jump 0) .code; pool = emitWord f e (Sym.jump 0) .pool }
+  set-jump : (e : Emitted) (z : ℕ) → emitWord f e (Sym.jump z) ≡ record { image = set (emitWord f e (Sym.jump 0) .image) (e .next) (reference JMP false z); next = emitWord f e (Sym.jump 0) .next; pool = emitWord f e (Sym.jump 0) .pool }
   unfolding emitWord withWord wordOf withLiterals literalOf
-  set-jump e z = rw (set-set (e .image) (e .code) (reference JMP false 0) (reference JMP false z))
+  set-jump e z = rw (set-set (e .image) (e .next) (reference JMP false 0) (reference JMP false z))
 
-  jump-first : (e : Emitted) (z : ℕ) (ws : List Sym) → e .code < emitWord f e (Sym.jump 0) .code
+  jump-first : (e : Emitted) (z : ℕ) (ws : List Sym) → e .next < emitWord f e (Sym.jump 0) .next
       → emitAll f e (Sym.jump z ∷ ws)
-      ≡ record { image = filled (emitAll f e (Sym.jump 0 ∷ ws) .image) (e .code) z; code = emitAll f e (Sym.jump 0 ∷ ws) .code; pool = emitAll f e (Sym.jump 0 ∷ ws) .pool }
+      ≡ record { image = filled (emitAll f e (Sym.jump 0 ∷ ws) .image) (e .next) z; next = emitAll f e (Sym.jump 0 ∷ ws) .next; pool = emitAll f e (Sym.jump 0 ∷ ws) .pool }
   unfolding emitAll
-  jump-first e z ws h = ap (λ x. emitAll f x ws) (set-jump e z) ∙ set-all (emitWord f e (Sym.jump 0)) (e .code) (reference JMP false z) ws h
+  jump-first e z ws h = ap (λ x. emitAll f x ws) (set-jump e z) ∙ set-all (emitWord f e (Sym.jump 0)) (e .next) (reference JMP false z) ws h
 
 -- the state with the jump filled in
 abbrev pub filledIn : Emitted → ℕ → ℕ → Emitted
-filledIn e hole z = record { image = filled (e .image) hole z; code = e .code; pool = e .pool }
+filledIn e hole z = record { image = filled (e .image) hole z; next = e .next; pool = e .pool }
 
 module _ {f : Bases} where
   -- a jump that is filled in later
-  pub jump-later : {a b : Emitted} {u : Code} → Lays f a b u → Holed f a (emitWord f b (Sym.jump 0)) (λ at z. u at ⧺ Sym.jump z ∷ []) (b .code)
+  pub jump-later : {a b : Emitted} {u : WordsAt} → Lays f a b u → ForwardJump f a (emitWord f b (Sym.jump 0)) (λ at z. u at ⧺ Sym.jump z ∷ []) (b .next)
   jump-later {a} {b} {u} p =
       record {
         before = u;
@@ -219,8 +222,8 @@ module _ {f : Bases} where
       }
 
   -- what follows keeps it
-  pub before-rest : {a b c : Emitted} {w : ℕ → ℕ → List Sym} {v : Code} {hole : ℕ} → Holed f a b w hole → Lays f b c v
-      → Holed f a c (λ at z. w at z ⧺ v (at + length (w at 0))) hole
+  pub before-rest : {a b c : Emitted} {w : ℕ → ℕ → List Sym} {v : WordsAt} {hole : ℕ} → ForwardJump f a b w hole → Lays f b c v
+      → ForwardJump f a c (λ at z. w at z ⧺ v (at + length (w at 0))) hole
   unfolding _⧺_
   before-rest {w = w} {v = v} p q =
       record {
@@ -233,13 +236,13 @@ module _ {f : Bases} where
       }
 
   -- the same words, put otherwise
-  pub same-holed : {a b : Emitted} {u v : ℕ → ℕ → List Sym} {hole : ℕ} → ((at z : ℕ) → u at z ≡ v at z) → Holed f a b u hole → Holed f a b v hole
-  same-holed e p =
+  pub same-forward : {a b : Emitted} {u v : ℕ → ℕ → List Sym} {hole : ℕ} → ((at z : ℕ) → u at z ≡ v at z) → ForwardJump f a b u hole → ForwardJump f a b v hole
+  same-forward e p =
       record { before = p .before; rest = p .rest; cut = λ at z. sym (e at z) ∙ p .cut at z; lays = same (λ at. e at 0) (p .lays); place = p .place; inside = p .inside }
 
   -- after other words
-  pub after-words : {a b c : Emitted} {u : Code} {w : ℕ → ℕ → List Sym} {hole : ℕ} → Lays f a b u → Holed f b c w hole
-      → Holed f a c (λ at z. u at ⧺ w (at + length (u at)) z) hole
+  pub after-words : {a b c : Emitted} {u : WordsAt} {w : ℕ → ℕ → List Sym} {hole : ℕ} → Lays f a b u → ForwardJump f b c w hole
+      → ForwardJump f a c (λ at z. u at ⧺ w (at + length (u at)) z) hole
   after-words {a} {b} {c} {u} {w} {hole} p q =
       record {
         before = λ at. u at ⧺ q .before (at + length (u at));
@@ -250,17 +253,17 @@ module _ {f : Bases} where
         inside = omega (arith, p .kept .grows, q .inside);
       }
     where
-      placed : c .code < lastAddress → hole ≡ a .code + length (u (a .code) ⧺ q .before (a .code + length (u (a .code))))
+      placed : c .next < lastAddress → hole ≡ a .next + length (u (a .next) ⧺ q .before (a .next + length (u (a .next))))
       placed h =
           let g = q .lays .kept .grows in
           let n = p .counts (omega (arith, g, h)) in
           let m = q .place h in
           let l = ap (λ x. length (q .before x)) n in
-          let t = append-length (u (a .code)) (q .before (a .code + length (u (a .code)))) in
+          let t = append-length (u (a .next)) (q .before (a .next + length (u (a .next)))) in
           omega (arith, n, m, l, t)
 
   -- THE JUMP FILLED IN, with a target that the words' address gives
-  pub fill : {a b : Emitted} {w : ℕ → ℕ → List Sym} {hole z : ℕ} → Holed f a b w hole → (target : ℕ → ℕ) → (b .code < lastAddress → z ≡ target (a .code))
+  pub fill : {a b : Emitted} {w : ℕ → ℕ → List Sym} {hole z : ℕ} → ForwardJump f a b w hole → (target : ℕ → ℕ) → (b .next < lastAddress → z ≡ target (a .next))
       → Lays f a (filledIn b hole z) (λ at. w at (target at))
   fill {a} {b} {w} {hole} {z} p target e =
       record {
@@ -271,7 +274,7 @@ module _ {f : Bases} where
       }
     where
       at : ℕ
-      at = a .code
+      at = a .next
 
       first : Emitted
       first = emitAll f a (p .before at)
@@ -285,20 +288,20 @@ module _ {f : Bases} where
       cut-all : (y : ℕ) → emitAll f a (w at y) ≡ emitAll f first (Sym.jump y ∷ p .rest at)
       cut-all y = ap (emitAll f a) (p .cut at y) ∙ emit-append f a (p .before at) (Sym.jump y ∷ p .rest at)
 
-      filled-fits : b .code < lastAddress → filledIn b hole z ≡ emitAll f a (w at (target at))
+      filled-fits : b .next < lastAddress → filledIn b hole z ≡ emitAll f a (w at (target at))
       filled-fits h =
           let is = p .lays .fits h ∙ cut-all 0 in
           let all : Lays f first (emitAll f first (Sym.jump 0 ∷ p .rest at)) (λ _. Sym.jump 0 ∷ p .rest at) = words (Sym.jump 0 ∷ p .rest at) in
-          let end = ap (λ x. x .code) is in
+          let end = ap (λ x. x .next) is in
           let g = all .kept .grows in
           let n = all .counts (omega (arith, end, h)) in
           let m = words {f = f} {a = a} (p .before at) .counts (omega (arith, end, g, h)) in
           let q = p .place h in
-          let i : hole ≡ first .code = omega (arith, m, q) in
-          let s = next-below (first .code) (omega (arith, end, g, n, h)) in
-          let d = word-code f first (Sym.jump 0) in
+          let i : hole ≡ first .next = omega (arith, m, q) in
+          let s = next-below (first .next) (omega (arith, end, g, n, h)) in
+          let d = word-next f first (Sym.jump 0) in
           ap (λ x. filledIn x hole z) is
           ∙ ap (λ x. filledIn (emitAll f first (Sym.jump 0 ∷ p .rest at)) x z) i
-          ∙ ap (λ x. filledIn (emitAll f first (Sym.jump 0 ∷ p .rest at)) (first .code) x) (e h)
+          ∙ ap (λ x. filledIn (emitAll f first (Sym.jump 0 ∷ p .rest at)) (first .next) x) (e h)
           ∙ sym (jump-first f first (target at) (p .rest at) (omega (arith, s, d)))
           ∙ sym (cut-all (target at))

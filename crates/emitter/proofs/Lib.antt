@@ -1,5 +1,4 @@
 -- Laws of emission.
-pub mod Pools
+pub mod EmittedPools
 pub mod Lays
-pub mod Words
-pub mod Ends
+pub mod EmittedWords

@@ -4,17 +4,20 @@ ghost use mathlib.Core.Bool.{true, false};
 ghost use mathlib.Core.List.{[], _∷_};
 ghost use Prim.Native.Nat.{_+_, _≤_};
 ghost use lib.ListN.{length, getD, set};
-ghost use Rattle.instruction.specs.Code as codes;
+ghost use Rattle.instruction.specs.Opcode as opcodes;
 ghost use Rattle.instruction.specs.Table.{tableOf};
 ghost use Rattle.instruction.specs.Encode.{shiftWord};
 ghost use Rattle.symbols.specs.Trees.{treeOperand, treeCell};
-ghost use Rattle.syntax.specs.Emission.{Sym, reachWords, orderWord, cellWords};
-ghost use Rattle.syntax.specs.Pool.{indexOf, literalOf};
-ghost use Rattle.emission.specs.Map as map;
-ghost use Rattle.emitter.specs.Emitted.{heldBy, nextAddress, basesOf, frameOf, noPool, Takes, Puts, Emits};
+ghost use Rattle.layout.specs.Addresses.{sectorWords, firstGlobal};
+ghost use Rattle.layout.specs.Words.{Sym, reachWords, instructionWord, cellWords};
+ghost use Rattle.layout.specs.Pool.{indexOf, literalOf};
+ghost use Rattle.layout.specs.Map as map;
+ghost use Rattle.layout.specs.Emission.{nextAddress, frameOf};
+ghost use Rattle.emitter.specs.Emitted.{literalsIn, basesOf, noPool, Takes, Puts, Emits};
 ghost use Rattle.emitter.specs.Lays.{filled};
-use instruction::code::JMP;
-use instruction::code::LDX;
+use instruction::opcode::JMP;
+use instruction::opcode::LDX;
+use layout::addresses;
 use symbols::Cell;
 use symbols::Id;
 use symbols::Operand;
@@ -23,11 +26,13 @@ use symbols::Subscript;
 // The last address that 16 bits hold, far above the memory.
 pub const LAST_ADDRESS: u16 = 65535;
 
-// The first word of the globals.
-const FIRST_GLOBAL: u32 = 0o200;
+// An address is reckoned in 32 bits, since a local's may be above 65,535.
+const FIRST_GLOBAL: u32 = addresses::FIRST_GLOBAL as u32;
+
+const SECTOR_WORDS: u32 = addresses::SECTOR_WORDS as u32;
 
 // As many words as a sector has: no sector holds a longer pool.
-const POOL_WORDS: usize = 512;
+const POOL_WORDS: usize = addresses::SECTOR_WORDS as usize;
 
 // The literal pool of the open sector, in order of first use; the first `count` words count.
 pub struct Pool {
@@ -37,7 +42,7 @@ pub struct Pool {
 
 // What is emitted so far, but for the image: the address of the next word, and the pool.
 pub struct Output {
-    pub code: u16,
+    pub next: u16,
     pub pool: Pool,
 }
 
@@ -59,7 +64,7 @@ pub fn empty_pool() -> Pool
 
 // How many words a pool holds: all, where its count is above them.
 pub fn held_count(pool: Pool) -> usize
-    ensures { λ r. ⌜ (r ≡ length (heldBy pool)) × (r ≤ 512) ⌝ }
+    ensures { λ r. ⌜ (r ≡ length (literalsIn pool)) × (r ≤ sectorWords) ⌝ }
 {
     let count = pool.count;
     if POOL_WORDS < count {
@@ -71,7 +76,7 @@ pub fn held_count(pool: Pool) -> usize
 
 // The place of a value in a pool, or how many words it holds.
 fn index_of(pool: Pool, value: u16) -> usize
-    ensures { λ r. ⌜ (r ≡ indexOf (heldBy pool) value) × (r ≤ 512) ⌝ }
+    ensures { λ r. ⌜ (r ≡ indexOf (literalsIn pool) value) × (r ≤ sectorWords) ⌝ }
 {
     let words = pool.words;
     let count = held_count(pool);
@@ -122,25 +127,25 @@ pub fn store(image: &mut [u16], at: usize, word: u16)
 fn emit_word(image: &mut [u16], output: Output, word: u16) -> Output
     ensures { λ r. ⌜ Puts output (now (image .entry)) r (now (image .exit)) word ⌝ }
 {
-    let at = output.code;
+    let at = output.next;
     let pool = output.pool;
     store(image, at as usize, word);
     Output {
-        code: next_address(at),
+        next: next_address(at),
         pool,
     }
 }
 
-// The word of an order on an address: LDX has its tag set, and an address outside of sector 0 its sector bit.
-fn reference(code: u16, indirect: bool, address: u32) -> u16
-    ensures { λ r. ⌜ r ≡ map.reference code indirect address ⌝ }
+// The word of an instruction on an address: LDX has its tag set, and an address outside of sector 0 its sector bit.
+fn reference(opcode: u16, indirect: bool, address: u32) -> u16
+    ensures { λ r. ⌜ r ≡ map.reference opcode indirect address ⌝ }
 {
     instruction::encode_memory(
-        code,
+        opcode,
         indirect,
-        code == LDX,
-        512 <= address,
-        (address % 512) as u16,
+        opcode == LDX,
+        SECTOR_WORDS <= address,
+        (address % SECTOR_WORDS) as u16,
     )
 }
 
@@ -164,27 +169,27 @@ pub fn emit_shift(image: &mut [u16], output: Output, kind: u16, amount: u16) -> 
     emit_word(image, output, instruction::encode_shift(kind, amount))
 }
 
-// An order that goes indirectly through a global word.
-pub fn emit_through(image: &mut [u16], output: Output, code: u16, number: u16) -> Output
-    ensures { λ r. ⌜ Puts output (now (image .entry)) r (now (image .exit)) (map.reference code true (0o200 + number)) ⌝ }
+// An instruction that goes indirectly through a global word.
+pub fn emit_through(image: &mut [u16], output: Output, opcode: u16, number: u16) -> Output
+    ensures { λ r. ⌜ Puts output (now (image .entry)) r (now (image .exit)) (map.reference opcode true (firstGlobal + number)) ⌝ }
 {
     emit_word(
         image,
         output,
-        reference(code, true, FIRST_GLOBAL + number as u32),
+        reference(opcode, true, FIRST_GLOBAL + number as u32),
     )
 }
 
 // A jump to a code address.
 pub fn emit_jump(image: &mut [u16], output: Output, target: u16) -> Output
-    ensures { λ r. ⌜ Puts output (now (image .entry)) r (now (image .exit)) (map.reference codes.JMP false target) ⌝ }
+    ensures { λ r. ⌜ Puts output (now (image .entry)) r (now (image .exit)) (map.reference opcodes.JMP false target) ⌝ }
 {
     emit_word(image, output, reference(JMP, false, target as u32))
 }
 
 // A return through a link.
 pub fn emit_return(image: &mut [u16], output: Output, link: u16) -> Output
-    ensures { λ r. ⌜ Puts output (now (image .entry)) r (now (image .exit)) (map.reference codes.JMP true link) ⌝ }
+    ensures { λ r. ⌜ Puts output (now (image .entry)) r (now (image .exit)) (map.reference opcodes.JMP true link) ⌝ }
 {
     emit_word(image, output, reference(JMP, true, link as u32))
 }
@@ -212,7 +217,7 @@ fn id_address(context: Context, id: Id) -> u32
 
 // The address of an operand, with its literal in the pool.
 fn address_of(context: Context, pool: Pool, operand: Operand) -> u32
-    ensures { λ r. ⌜ r ≡ map.addressOf (frameOf (basesOf context) (heldBy pool)) (treeOperand operand) ⌝ }
+    ensures { λ r. ⌜ r ≡ map.addressOf (frameOf (basesOf context) (literalsIn pool)) (treeOperand operand) ⌝ }
 {
     match operand {
         Operand::Named { id } => id_address(context, id),
@@ -230,24 +235,24 @@ fn with_operand(pool: Pool, operand: Operand) -> Pool
     }
 }
 
-// An order on an integer, a constant or a literal.
+// An instruction on an integer, a constant or a literal.
 pub fn emit_memory(
     image: &mut [u16],
     context: Context,
     output: Output,
-    code: u16,
+    opcode: u16,
     operand: Operand,
 ) -> Output
-    ensures { λ r. ⌜ Emits (basesOf context) output (now (image .entry)) r (now (image .exit)) (Sym.memory code (treeOperand operand) ∷ []) ⌝ }
+    ensures { λ r. ⌜ Emits (basesOf context) output (now (image .entry)) r (now (image .exit)) (Sym.memory opcode (treeOperand operand) ∷ []) ⌝ }
 {
-    let at = output.code;
+    let at = output.next;
     let held = output.pool;
     let pool = with_operand(held, operand);
     let address = address_of(context, pool, operand);
     emit_word(
         image,
-        Output { code: at, pool },
-        reference(code, false, address),
+        Output { next: at, pool },
+        reference(opcode, false, address),
     )
 }
 
@@ -268,35 +273,35 @@ pub fn emit_reach(image: &mut [u16], context: Context, output: Output, cell: Cel
     emit_memory(image, context, output, LDX, operand)
 }
 
-// An order on a cell that is reached.
-pub fn emit_order(
+// An instruction on a cell that is reached.
+pub fn emit_instruction(
     image: &mut [u16],
     context: Context,
     output: Output,
-    code: u16,
+    opcode: u16,
     cell: Cell,
 ) -> Output
-    ensures { λ r. ⌜ Emits (basesOf context) output (now (image .entry)) r (now (image .exit)) (orderWord code (treeCell cell) ∷ []) ⌝ }
+    ensures { λ r. ⌜ Emits (basesOf context) output (now (image .entry)) r (now (image .exit)) (instructionWord opcode (treeCell cell) ∷ []) ⌝ }
 {
     match cell {
-        Cell::Plain { operand } => emit_memory(image, context, output, code, operand),
+        Cell::Plain { operand } => emit_memory(image, context, output, opcode, operand),
         Cell::Item {
             array,
             subscript: _,
-        } => emit_through(image, output, code, array.number),
+        } => emit_through(image, output, opcode, array.number),
     }
 }
 
-// An order on a cell, with what reaches it.
+// An instruction on a cell, with what reaches it.
 pub fn emit_cell(
     image: &mut [u16],
     context: Context,
     output: Output,
-    code: u16,
+    opcode: u16,
     cell: Cell,
 ) -> Output
-    ensures { λ r. ⌜ Emits (basesOf context) output (now (image .entry)) r (now (image .exit)) (cellWords code (treeCell cell)) ⌝ }
+    ensures { λ r. ⌜ Emits (basesOf context) output (now (image .entry)) r (now (image .exit)) (cellWords opcode (treeCell cell)) ⌝ }
 {
     let reached = emit_reach(image, context, output, cell);
-    emit_order(image, context, reached, code, cell)
+    emit_instruction(image, context, reached, opcode, cell)
 }

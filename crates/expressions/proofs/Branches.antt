@@ -1,12 +1,12 @@
--- Two parts of which a condition chooses one: the words of both, with their jumps. Assumes nothing.
+-- Two parts of which a condition chooses one: the words of both, with their jumps.
 use Prim.Native.Nat.{ℕ, suc, _+_, _<_}
 use mathlib.Core.Path.{_≡_, refl, sym, ap, _∙_}
 use mathlib.Core.List.{List, [], _∷_}
 use native.Mathlib.Omega.{arith}
 use lib.ListN.{length}
-use Rattle.syntax.specs.Emission.{Sym, _⧺_}
-use Rattle.emitter.specs.Emitted.{Emitted, lastAddress, Bases}
-use Rattle.emitter.specs.Lays.{Code, Lays, Holed}
+use Rattle.layout.specs.Words.{Sym, _⧺_}
+use Rattle.layout.specs.Emission.{Emitted, lastAddress, Bases}
+use Rattle.emitter.specs.Lays.{WordsAt, Lays, ForwardJump}
 use Rattle.emitter.proofs.Lays.{append-length, append-assoc, filledIn, same, before-rest, fill}
 use Rattle.expressions.proofs.Leaves.{last-jump}
 
@@ -15,63 +15,63 @@ unfolding _⧺_
 jump-then z ws = refl
 
 -- a jump alone is where it begins
-pub jump-at : {f : Bases} {a b : Emitted} {hole : ℕ} → Holed f a b (λ at z. Sym.jump z ∷ []) hole → b .code < lastAddress → hole ≡ a .code
+pub jump-at : {f : Bases} {a b : Emitted} {hole : ℕ} → ForwardJump f a b (λ at z. Sym.jump z ∷ []) hole → b .next < lastAddress → hole ≡ a .next
 jump-at {a = a} p h =
-    let first = p .before (a .code) in
-    let size : 1 ≡ length (first ⧺ Sym.jump 0 ∷ p .rest (a .code)) = ap length (p .cut (a .code) 0) in
-    let parts = append-length first (Sym.jump 0 ∷ p .rest (a .code)) in
+    let first = p .before (a .next) in
+    let size : 1 ≡ length (first ⧺ Sym.jump 0 ∷ p .rest (a .next)) = ap length (p .cut (a .next) 0) in
+    let parts = append-length first (Sym.jump 0 ∷ p .rest (a .next)) in
     let q = p .place h in
     omega (arith, size, parts, q)
 
 -- the words of a part with a hole are as many whatever fills it
-holed-length : {f : Bases} {a b : Emitted} {w : ℕ → ℕ → List Sym} {hole : ℕ} → Holed f a b w hole → (at y z : ℕ) → length (w at y) ≡ length (w at z)
-holed-length p at y z =
+forward-length : {f : Bases} {a b : Emitted} {w : ℕ → ℕ → List Sym} {hole : ℕ} → ForwardJump f a b w hole → (at y z : ℕ) → length (w at y) ≡ length (w at z)
+forward-length p at y z =
     let c = ap length (p .cut at y) ∙ append-length (p .before at) (Sym.jump y ∷ p .rest at) in
     let d = ap length (p .cut at z) ∙ append-length (p .before at) (Sym.jump z ∷ p .rest at) in
     c ∙ sym d
 
 -- "test, first part, JMP end, second part": the test and the first part are w
-abbrev pub branchWords : (ℕ → ℕ → List Sym) → Code → Code
+abbrev pub branchWords : (ℕ → ℕ → List Sym) → WordsAt → WordsAt
 branchWords w t at = let next = suc (at + length (w at 0)) in w at next ⧺ Sym.jump (next + length (t next)) ∷ t next
 
-module _ {f : Bases} {a b c m : Emitted} {w : ℕ → ℕ → List Sym} {t : Code} {hole place : ℕ} where
-  pub branches : Holed f a b w hole → Holed f b c (λ at z. Sym.jump z ∷ []) place → Lays f (filledIn c hole (c .code)) m t → Lays f a (filledIn m place (m .code)) (branchWords w t)
+module _ {f : Bases} {a b c m : Emitted} {w : ℕ → ℕ → List Sym} {t : WordsAt} {hole place : ℕ} where
+  pub branches : ForwardJump f a b w hole → ForwardJump f b c (λ at z. Sym.jump z ∷ []) place → Lays f (filledIn c hole (c .next)) m t → Lays f a (filledIn m place (m .next)) (branchWords w t)
   branches p j r = same joined (fill whole (λ at. next at + length (t (next at))) ended)
     where
       next : ℕ → ℕ
       next at = suc (at + length (w at 0))
 
-      first : Code
+      first : WordsAt
       first at = w at (next at)
 
-      both : Holed f a c (λ at y. w at y ⧺ Sym.jump 0 ∷ []) hole
+      both : ForwardJump f a c (λ at y. w at y ⧺ Sym.jump 0 ∷ []) hole
       both = before-rest p (j .lays)
 
-      first-ended : c .code < lastAddress → c .code ≡ next (a .code)
-      first-ended h = let n = both .lays .counts h in let l = append-length (w (a .code) 0) (Sym.jump 0 ∷ []) in omega (arith, n, l)
+      first-ended : c .next < lastAddress → c .next ≡ next (a .next)
+      first-ended h = let n = both .lays .counts h in let l = append-length (w (a .next) 0) (Sym.jump 0 ∷ []) in omega (arith, n, l)
 
-      one : Lays f a (filledIn c hole (c .code)) (λ at. first at ⧺ Sym.jump 0 ∷ [])
+      one : Lays f a (filledIn c hole (c .next)) (λ at. first at ⧺ Sym.jump 0 ∷ [])
       one = fill both next first-ended
 
-      at-place : c .code < lastAddress → place ≡ a .code + length (first (a .code))
+      at-place : c .next < lastAddress → place ≡ a .next + length (first (a .next))
       at-place h =
           let e = jump-at j h in
           let g = j .lays .counts h in
           let n = first-ended h in
-          let l = holed-length p (a .code) (next (a .code)) 0 in
+          let l = forward-length p (a .next) (next (a .next)) 0 in
           omega (arith, e, g, n, l)
 
       second-at : (at : ℕ) → at + length (first at ⧺ Sym.jump 0 ∷ []) ≡ next at
-      second-at at = let l = append-length (first at) (Sym.jump 0 ∷ []) in let k = holed-length p at (next at) 0 in omega (arith, l, k)
+      second-at at = let l = append-length (first at) (Sym.jump 0 ∷ []) in let k = forward-length p at (next at) 0 in omega (arith, l, k)
 
-      whole : Holed f a m (λ at z. (first at ⧺ Sym.jump z ∷ []) ⧺ t (at + length (first at ⧺ Sym.jump 0 ∷ []))) place
+      whole : ForwardJump f a m (λ at z. (first at ⧺ Sym.jump z ∷ []) ⧺ t (at + length (first at ⧺ Sym.jump 0 ∷ []))) place
       whole = before-rest (last-jump first one at-place (omega (arith, p .lays .kept .grows, j .inside))) r
 
-      ended : m .code < lastAddress → m .code ≡ next (a .code) + length (t (next (a .code)))
+      ended : m .next < lastAddress → m .next ≡ next (a .next) + length (t (next (a .next)))
       ended h =
           let n = whole .lays .counts h in
-          let l = append-length (first (a .code) ⧺ Sym.jump 0 ∷ []) (t (a .code + length (first (a .code) ⧺ Sym.jump 0 ∷ []))) in
-          let e = second-at (a .code) in
+          let l = append-length (first (a .next) ⧺ Sym.jump 0 ∷ []) (t (a .next + length (first (a .next) ⧺ Sym.jump 0 ∷ []))) in
+          let e = second-at (a .next) in
           let k = ap (λ x. length (t x)) e in
           omega (arith, n, l, e, k)
 

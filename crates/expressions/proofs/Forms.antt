@@ -1,4 +1,4 @@
--- The forms of an expression, each from what its parts were compiled as. Assumes nothing.
+-- The forms of an expression, each from what its parts were compiled as.
 use Prim.Native.Nat.{ℕ, zero, suc, _+_, _-_}
 use mathlib.Core.Path.{_≡_, refl, sym, ap, _∙_}
 use mathlib.Core.Bool.{Bool, true, false}
@@ -8,40 +8,41 @@ use native.Mathlib.Omega.{arith}
 use borrow.Author.Tests.{eq-eqb, ne-eqb}
 use lib.Dec.{eqb}
 use lib.ListN.{length, getD}
-use Rattle.source.specs.Bytes.{whether, find, given}
+use Rattle.prelude.specs.Choice.{whether, find, given}
 use Rattle.source.specs.Kinds
 use Rattle.source.specs.declared.Token.{Token}
 use Rattle.source.specs.Tokens.{tokenAt, failureAt}
-use Rattle.instruction.specs.Code.{LDA, JST, JMP}
+use Rattle.instruction.specs.Opcode.{LDA, JST, JMP}
 use Rattle.instruction.specs.Slot.{CRA}
 use Rattle.instruction.specs.Table.{tableOf}
-use Rattle.syntax.specs.Tree.{Unary, Operation, Cell, Expr, Term, Cond}
-use Rattle.syntax.specs.Symbols.{Names}
-use Rattle.syntax.specs.Parse.{Got, andThen, failAt, expect}
-use Rattle.syntax.specs.Words.{unaries}
-use Rattle.syntax.specs.Cells.{cellFrom}
-use Rattle.syntax.specs.Parse.Got.{got, failed}
-use Rattle.syntax.specs.Emission.{Sym, _⧺_, cellWords, unariesWords, operationsWords, exprEnd, condEnd, exprWords, termWords, condWords}
-use Rattle.syntax.specs.Expressions.{termStart, termFrom, parseBracketed, parseCall, parseUnaries, parseOperations, parseChain, parseCond, parseChoice, parseExpr}
-use Rattle.syntax.specs.Expressions as expressions
-use Rattle.emission.specs.Map.{reference}
-use Rattle.cells.specs.declared.Part.{Part}
+use Rattle.tree.specs.Tree.{Unary, Operation, Cell, Expr, Term, Cond}
+use Rattle.tree.specs.Symbols.{Names}
+use Rattle.grammar.specs.Parse.{Got, andThen, failAt, expect}
+use Rattle.grammar.specs.Vocabulary.{unaries}
+use Rattle.grammar.specs.Cells.{cellFrom}
+use Rattle.grammar.specs.Parse.Got.{got, failed}
+use Rattle.layout.specs.Words.{Sym, _⧺_, cellWords, unariesWords, operationsWords, exprEnd, condEnd, exprWords, termWords, condWords}
+use Rattle.grammar.specs.Expressions.{termStart, termFrom, parseBracketed, parseCall, parseUnaries, parseOperations, parseChain, parseCond, parseChoice, parseExpr}
+use Rattle.grammar.specs.Expressions as expressions
+use Rattle.layout.specs.Map.{reference}
+use Rattle.parser.specs.declared.Part.{Part}
 use Rattle.cells.specs.declared.CellStart.{CellStart}
 use Rattle.cells.specs.declared.TermStart.{TermStart}
-use Rattle.cells.specs.Answers.{partOf, treeCellStart, treeTermStart}
-use Rattle.emitter.specs.Emitted.{Emitted, withWord, Bases}
+use Rattle.parser.specs.Answers.{partOf}
+use Rattle.cells.specs.Answers.{treeCellStart, treeTermStart}
+use Rattle.layout.specs.Emission.{Emitted, withWord, Bases}
 use Rattle.emitter.specs.Lays.{Lays}
 use Rattle.emitter.proofs.Lays.{append-assoc, append-length, filledIn, kept-here, kept-then, kept-set, nothing, sequence, same, before-rest}
-use Rattle.emitter.proofs.Ends.{expr-end, cond-end}
+use Rattle.layout_laws.proofs.Spans.{expr-end, cond-end}
 use Rattle.expressions.specs.Chains.{unariesOf, unariesNext, elseExpr}
-use Rattle.expressions.specs.Compiles.{Compiles, Tests, Alternates, Always, AlwaysHoled}
+use Rattle.expressions.specs.Compiles.{Compiles, Tests, Alternates, Always, AlwaysForwardJump}
 use Rattle.expressions.proofs.Leaves as leaves
-use Rattle.expressions.proofs.UnaryWords.{unaries-parsed}
+use Rattle.expressions.proofs.UnaryLaws.{unaries-parsed}
 use Rattle.expressions.proofs.Branches.{branchWords, branches}
-use Rattle.cells.proofs.Laws.{then-got, then-failed, part-read}
-use Rattle.cells.specs.Reads.Reads.{read, fails}
-use Rattle.cells.proofs.Reading.{then-then, came, pass, missing, reads-as, ended-by}
-use Rattle.expressions.proofs.Laws.{as-tree}
+use Rattle.parser.proofs.Answers.{then-got, then-failed, part-read}
+use Rattle.parser.specs.Reads.Reads.{read, fails}
+use Rattle.parser.proofs.ReadLaws.{then-then, came, pass, missing, reads-as, ended-by}
+use Rattle.expressions.proofs.Compiles.{as-tree}
 
 -- ---- Brackets and calls
 
@@ -148,18 +149,18 @@ module _ (source : List ℕ) (names : Names) (inner : ℕ → Got Expr) (at : �
       first-failed i j = let v = came h e in pass _ i j (then-got _ (v .is) ∙ then-got _ (part-read _ g q .is)) (kept-then (v .holds .lays .kept))
 
       pub chosen : {c d x : Emitted} {k place : ℕ} {one two : Part} → Compiles f exprWords b c one (inner m) → one ≡ Part.Read k
-          → AlwaysHoled c d (λ at z. Sym.jump z ∷ []) place → Alternates f exprWords (filledIn d hole (d .code)) x place two (elseExpr source inner k)
+          → AlwaysForwardJump c d (λ at z. Sym.jump z ∷ []) place → Alternates f exprWords (filledIn d hole (d .next)) x place two (elseExpr source inner k)
           → Compiles f exprWords a x two (parseChoice source names inner at)
       unfolding parseChoice elseExpr
       chosen {d = d} {k = k} i j l r =
           let v = came h e in
           let u = came i j in
           let first = before-rest (v .holds) (u .holds) in
-          let lays = before-rest first (l .holed f .lays) in
+          let lays = before-rest first (l .forward f .lays) in
           reads-as (Expr.choose (v .tree) (u .tree)) r refl
           (then-got _ (v .is) ∙ then-got _ (part-read _ g q .is) ∙ then-got _ (u .is) ∙ then-then (expect Kinds.ELSE source k) (λ _ l. inner l) (λ f next. got (Expr.choose (v .tree) (u .tree) f) next))
-          (λ t o. rw (o .is) (same (choose-words (v .tree) (u .tree) t) (branches first (l .holed f) (o .lays))))
-          (kept-then (kept-set hole (reference JMP false (d .code)) (lays .inside) (lays .lays .kept)))
+          (λ t o. rw (o .is) (same (choose-words (v .tree) (u .tree) t) (branches first (l .forward f) (o .lays))))
+          (kept-then (kept-set hole (reference JMP false (d .next)) (lays .inside) (lays .lays .kept)))
 
 -- what comes after a state that is known otherwise
 pub from-state : {f : Bases} {a a′ x : Emitted} {place : ℕ} {part : Part} {g : Got Expr} → a ≡ a′ → Alternates f exprWords a x place part g → Alternates f exprWords a′ x place part g

@@ -1,10 +1,10 @@
 -- Laws of expressions and conditions as the code compiles them.
-pub mod Tables
-pub mod Laws
+pub mod VocabularyLaws
+pub mod Compiles
 pub mod Leaves
-pub mod Relations
-pub mod Turns
-pub mod Comparisons
-pub mod UnaryWords
+pub mod RelationLaws
+pub mod OperatorLaws
+pub mod ComparingLaws
+pub mod UnaryLaws
 pub mod Branches
 pub mod Forms

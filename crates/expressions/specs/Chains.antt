@@ -1,20 +1,20 @@
--- The lists of a chain, one step at a time. Assumes nothing.
+-- The lists of a chain, one step at a time.
 use Prim.Native.Nat.{ℕ, zero, suc, _+_}
 use mathlib.Core.List.{List, [], _∷_}
 use mathlib.Core.Option.{Option, none, some}
 use lib.ListN.{length}
-use Rattle.source.specs.Bytes.{between}
+use Rattle.prelude.specs.Choice.{between}
 use Rattle.source.specs.Kinds
 use Rattle.source.specs.declared.Token.{Token}
 use Rattle.source.specs.Tokens.{tokenAt}
-use Rattle.instruction.specs.Code.{CAS}
-use Rattle.syntax.specs.Tree.{Cell, Unary, Operation, Relation, Test, Expr, Cond}
-use Rattle.syntax.specs.Symbols.{Names}
-use Rattle.syntax.specs.Parse.{Got, andThen, failAt, expect}
-use Rattle.syntax.specs.Parse.Got.{got}
-use Rattle.syntax.specs.Words.{unaries, operators, shifts, relations, tests, asOneOf}
-use Rattle.syntax.specs.Emission.{Sym, _⧺_, cellWords, controls, controlWords, testSlot}
-use Rattle.syntax.specs.Cells.{parseInRange, parseCell, parseLoneCell}
+use Rattle.instruction.specs.Opcode.{CAS}
+use Rattle.tree.specs.Tree.{Cell, Unary, Operation, Relation, Test, Expr, Cond}
+use Rattle.tree.specs.Symbols.{Names}
+use Rattle.grammar.specs.Parse.{Got, andThen, failAt, expect}
+use Rattle.grammar.specs.Parse.Got.{got}
+use Rattle.grammar.specs.Vocabulary.{unaries, operators, shifts, relations, tests, asOneOf}
+use Rattle.layout.specs.Words.{Sym, _⧺_, cellWords, controls, controlWords, testSlot}
+use Rattle.grammar.specs.Cells.{parseInRange, parseCell, parseLoneCell}
 
 module _ (source : List ℕ) where
   -- the unary words from an offset on, up to so many, and the offset after them

@@ -1,5 +1,5 @@
 -- Expressions and conditions, compiled.
-pub mod Words
+pub mod Vocabulary
 pub mod Chains
 pub mod Compiles
 pub mod Unaries

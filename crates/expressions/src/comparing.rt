@@ -1,22 +1,19 @@
 // What follows a condition's expression: a relation and its cell, or a test.
-use crate::Tested;
+use crate::ConditionAnswer;
 use crate::emit_read;
 use crate::relation;
-use crate::words;
-use cells::Part;
+use crate::vocabulary;
 use cells::cell::lone_cell_at;
-use cells::fail_at;
-use cells::failures;
 use emitter::Context;
 use emitter::Output;
-use instruction::code;
+use instruction::opcode;
+use parser::Part;
+use parser::fail_at;
+use parser::failures;
 use source::Token;
 use source::token_at;
-ghost use Rattle.source.specs.Tokens.{tokenAt};
-ghost use Rattle.syntax.specs.Cells.{parseLoneCell};
-ghost use Rattle.emitter.specs.Emitted.{emittedBy, basesOf};
-ghost use Rattle.expressions.specs.Chains.{comparisonOf, comparisonWords};
-ghost use Rattle.expressions.specs.Compiles.{Compares, Decides, namesAt};
+ghost use Rattle.expressions.specs.Chains.{comparisonWords};
+ghost use Rattle.expressions.specs.Compiles.{Decides, DecidesComparison, comparisonAt, loneCellAt};
 
 // A relation's cell and the relation's words, after the relation.
 fn related(
@@ -26,26 +23,26 @@ fn related(
     context: Context,
     t: Token,
     output: Output,
-) -> Tested
-    ensures { λ r. ⌜ Compares (basesOf context) (t .kind) (emittedBy output (now (image .entry))) (emittedBy (r .output) (now (image .exit)))
-        (r .hole) (r .part) (parseLoneCell (now (source .entry)) (namesAt context (now (table .entry))) (t .next)) ⌝ }
+) -> ConditionAnswer
+    ensures { λ r. ⌜ DecidesComparison (t .kind) context output (now (image .entry)) (now (image .exit)) r
+        (loneCellAt (now (source .entry)) context (now (table .entry)) (t .next)) ⌝ }
 {
     let read = lone_cell_at(source, table, context.names, t.next);
-    let compared = emit_read(image, context, code::CAS, read, output);
+    let compared = emit_read(image, context, opcode::CAS, read, output);
     let part = compared.part;
-    let held = compared.output;
+    let after_cell = compared.output;
     let Part::Read { next: _ } = part else {
-        return Tested {
+        return ConditionAnswer {
             part,
-            output: held,
+            output: after_cell,
             hole: 0,
         };
     };
-    let last = relation::emit_relation(image, held, t.kind);
-    let more = last.output;
-    Tested {
+    let last = relation::emit_relation(image, after_cell, t.kind);
+    let after_relation = last.output;
+    ConditionAnswer {
         part,
-        output: more,
+        output: after_relation,
         hole: last.hole,
     }
 }
@@ -58,26 +55,26 @@ pub fn comparison(
     context: Context,
     at: usize,
     output: Output,
-) -> Tested
+) -> ConditionAnswer
     ensures { λ r. ⌜ Decides comparisonWords context output (now (image .entry)) (now (image .exit)) r
-        (comparisonOf (now (source .entry)) (namesAt context (now (table .entry))) (tokenAt (now (source .entry)) at)) ⌝ }
+        (comparisonAt (now (source .entry)) context (now (table .entry)) at) ⌝ }
 {
     let t = token_at(source, at);
-    if 0 < words::relation(t.kind) {
+    if 0 < vocabulary::relation(t.kind) {
         return related(source, table, image, context, t, output);
     }
-    let test = words::test(t.kind);
+    let test = vocabulary::test(t.kind);
     if 0 < test {
         let last = relation::emit_test(image, output, (test - 1) as usize);
-        let more = last.output;
-        return Tested {
+        let after_test = last.output;
+        return ConditionAnswer {
             part: Part::Read { next: t.next },
-            output: more,
+            output: after_test,
             hole: last.hole,
         };
     }
     let part = fail_at(t, failures::NOT_ALLOWED);
-    Tested {
+    ConditionAnswer {
         part,
         output,
         hole: 0,

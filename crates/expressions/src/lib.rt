@@ -1,52 +1,50 @@
 // Expressions and conditions: parsed and emitted in one go. Past the end of the image nothing is stored, so a first pass runs on an empty one.
 use crate::comparing::comparison;
 use crate::operators::operations;
-use cells::Part;
 use cells::TermStart;
 use cells::cell::CellAnswer;
 use cells::cell::cell_from;
-use cells::expect;
-use cells::openings::term_start_at;
-use cells::openings::too_deep_at;
+use cells::starts::term_start_at;
+use cells::starts::too_deep_at;
 use emitter::Context;
 use emitter::Output;
 use emitter::emit_cell;
 use emitter::emit_generic;
 use emitter::emit_through;
 use emitter::fill_jump;
-use instruction::code;
+use instruction::opcode;
 use instruction::slot;
+use parser::Part;
+use parser::expect;
 use source::kind;
 use source::token_at;
-ghost use Rattle.syntax.specs.Emission.{cellWords, exprWords, termWords, condWords};
-ghost use Rattle.syntax.specs.Expressions.{parseBracketed, parseChain, parseCond, parseChoice};
+ghost use Rattle.layout.specs.Words.{cellWords, exprWords, termWords, condWords};
 ghost use Rattle.symbols.specs.Trees.{treeCell};
-ghost use Rattle.cells.specs.Answers.{gotWith, treeTermStart};
-ghost use Rattle.emitter.specs.Emitted.{emittedBy, basesOf};
-ghost use Rattle.expressions.specs.Chains.{elseExpr};
-ghost use Rattle.expressions.specs.Compiles.{Alternates, Does, Decides, namesAt, exprAt, callAt, termAt};
+ghost use Rattle.parser.specs.Answers.{gotWith};
+ghost use Rattle.cells.specs.Answers.{treeTermStart};
+ghost use Rattle.expressions.specs.Compiles.{Does, Decides, DoesThenFills, exprAt, bracketedAt, callAt, termAt, chainAt, condAt, choiceAt, elseAt};
 
 mod comparing;
 mod operators;
 pub mod relation;
 mod unaries;
-mod words;
+mod vocabulary;
 
 // How far a part was read, or its failure; and what is emitted after it.
-pub struct Answer {
+pub struct OutputAnswer {
     pub part: Part,
     pub output: Output,
 }
 
 // A condition's answer, with the address of the jump that is taken where it fails.
-pub struct Tested {
+pub struct ConditionAnswer {
     pub part: Part,
     pub output: Output,
     pub hole: u16,
 }
 
 // What is emitted with a jump whose target is filled in later, and that jump's address.
-pub struct Jumping {
+pub struct JumpAnswer {
     pub output: Output,
     pub hole: u16,
 }
@@ -55,20 +53,23 @@ pub struct Jumping {
 fn emit_read(
     image: &mut [u16],
     context: Context,
-    order: u16,
+    opcode: u16,
     read: CellAnswer,
     output: Output,
-) -> Answer
-    ensures { λ r. ⌜ Does (λ c _. cellWords order c) context output (now (image .entry)) (now (image .exit)) r
+) -> OutputAnswer
+    ensures { λ r. ⌜ Does (λ c _. cellWords opcode c) context output (now (image .entry)) (now (image .exit)) r
         (gotWith (read .part) (treeCell (read .cell))) ⌝ }
 {
     let part = read.part;
     let Part::Read { next: _ } = part else {
-        return Answer { part, output };
+        return OutputAnswer { part, output };
     };
     let cell = read.cell;
-    let more = emit_cell(image, context, output, order, cell);
-    Answer { part, output: more }
+    let after_cell = emit_cell(image, context, output, opcode, cell);
+    OutputAnswer {
+        part,
+        output: after_cell,
+    }
 }
 
 // An expression and `)`, after the `(`.
@@ -80,20 +81,20 @@ fn bracketed(
     at: usize,
     left: usize,
     output: Output,
-) -> Answer
+) -> OutputAnswer
     ensures { λ r. ⌜ Does exprWords context output (now (image .entry)) (now (image .exit)) r
-        (parseBracketed (now (source .entry)) (namesAt context (now (table .entry))) (exprAt (now (source .entry)) context (now (table .entry)) left) at) ⌝ }
+        (bracketedAt (now (source .entry)) context (now (table .entry)) left at) ⌝ }
 {
     let inner = expression(source, table, image, context, at, left, output);
     let part = inner.part;
     let Part::Read { next } = part else {
         return inner;
     };
-    let held = inner.output;
+    let after_inner = inner.output;
     let close = expect(source, kind::RIGHT_PARENTHESIS, next);
-    Answer {
+    OutputAnswer {
         part: close,
-        output: held,
+        output: after_inner,
     }
 }
 
@@ -107,16 +108,16 @@ pub fn call(
     at: usize,
     left: usize,
     output: Output,
-) -> Answer
+) -> OutputAnswer
     ensures { λ r. ⌜ Does termWords context output (now (image .entry)) (now (image .exit)) r
         (callAt (now (source .entry)) context (now (table .entry)) left number at) ⌝ }
 {
     let t = token_at(source, at);
     if t.kind != kind::LEFT_PARENTHESIS {
-        let more = emit_through(image, output, code::JST, number);
-        return Answer {
+        let after_call = emit_through(image, output, opcode::JST, number);
+        return OutputAnswer {
             part: Part::Read { next: at },
-            output: more,
+            output: after_call,
         };
     }
     let argument = bracketed(source, table, image, context, t.next, left, output);
@@ -124,11 +125,11 @@ pub fn call(
     let Part::Read { next } = part else {
         return argument;
     };
-    let held = argument.output;
-    let more = emit_through(image, held, code::JST, number);
-    Answer {
+    let after_argument = argument.output;
+    let after_call = emit_through(image, after_argument, opcode::JST, number);
+    OutputAnswer {
         part: Part::Read { next },
-        output: more,
+        output: after_call,
     }
 }
 
@@ -142,24 +143,24 @@ fn term(
     at: usize,
     left: usize,
     output: Output,
-) -> Answer
+) -> OutputAnswer
     ensures { λ r. ⌜ Does termWords context output (now (image .entry)) (now (image .exit)) r
         (termAt (now (source .entry)) context (now (table .entry)) left (treeTermStart start) at) ⌝ }
 {
     match start {
         TermStart::Cell { start: cell } => {
             let read = cell_from(source, table, context.names, cell, at);
-            emit_read(image, context, code::LDA, read, output)
+            emit_read(image, context, opcode::LDA, read, output)
         }
-        TermStart::Accumulator => Answer {
+        TermStart::Accumulator => OutputAnswer {
             part: Part::Read { next: at },
             output,
         },
         TermStart::Zero => {
-            let more = emit_generic(image, output, slot::CRA);
-            Answer {
+            let after_zero = emit_generic(image, output, slot::CRA);
+            OutputAnswer {
                 part: Part::Read { next: at },
-                output: more,
+                output: after_zero,
             }
         }
         TermStart::Bracket => bracketed(source, table, image, context, at, left, output),
@@ -178,15 +179,15 @@ fn chain(
     at: usize,
     left: usize,
     output: Output,
-) -> Answer
+) -> OutputAnswer
     ensures { λ r. ⌜ Does exprWords context output (now (image .entry)) (now (image .exit)) r
-        (parseChain (now (source .entry)) (namesAt context (now (table .entry))) (exprAt (now (source .entry)) context (now (table .entry)) left) at) ⌝ }
+        (chainAt (now (source .entry)) context (now (table .entry)) left at) ⌝ }
 {
     let from = unaries::unaries_next(source, at);
     let first = term_start_at(source, table, context.names, from);
     let part = first.part;
     let Part::Read { next } = part else {
-        return Answer { part, output };
+        return OutputAnswer { part, output };
     };
     let start = first.start;
     let one = term(source, table, image, context, start, next, left, output);
@@ -194,9 +195,9 @@ fn chain(
     let Part::Read { next: after } = one_part else {
         return one;
     };
-    let held = one.output;
-    let more = unaries::emit_unaries(source, image, at, held);
-    operations(source, table, image, context, after, more)
+    let after_term = one.output;
+    let after_unaries = unaries::emit_unaries(source, image, at, after_term);
+    operations(source, table, image, context, after, after_unaries)
 }
 
 // A condition.
@@ -208,32 +209,32 @@ pub fn condition(
     at: usize,
     left: usize,
     output: Output,
-) -> Tested
+) -> ConditionAnswer
     ensures { λ r. ⌜ Decides condWords context output (now (image .entry)) (now (image .exit)) r
-        (parseCond (now (source .entry)) (namesAt context (now (table .entry))) (exprAt (now (source .entry)) context (now (table .entry)) left) at) ⌝ }
+        (condAt (now (source .entry)) context (now (table .entry)) left at) ⌝ }
 {
     let t = token_at(source, at);
-    let bare = words::bare(t.kind);
+    let bare = vocabulary::bare(t.kind);
     if 0 < bare {
         let last = relation::emit_test(image, output, (bare - 1) as usize);
-        let more = last.output;
-        return Tested {
+        let after_test = last.output;
+        return ConditionAnswer {
             part: Part::Read { next: t.next },
-            output: more,
+            output: after_test,
             hole: last.hole,
         };
     }
     let value = expression(source, table, image, context, at, left, output);
     let part = value.part;
-    let held = value.output;
+    let after_value = value.output;
     let Part::Read { next } = part else {
-        return Tested {
+        return ConditionAnswer {
             part,
-            output: held,
+            output: after_value,
             hole: 0,
         };
     };
-    comparison(source, table, image, context, next, held)
+    comparison(source, table, image, context, next, after_value)
 }
 
 // `.IF` condition `.THEN` expression `.ELSE` expression, after the `.IF`.
@@ -245,33 +246,45 @@ fn choice(
     at: usize,
     left: usize,
     output: Output,
-) -> Answer
+) -> OutputAnswer
     ensures { λ r. ⌜ Does exprWords context output (now (image .entry)) (now (image .exit)) r
-        (parseChoice (now (source .entry)) (namesAt context (now (table .entry))) (exprAt (now (source .entry)) context (now (table .entry)) left) at) ⌝ }
+        (choiceAt (now (source .entry)) context (now (table .entry)) left at) ⌝ }
 {
     let test = condition(source, table, image, context, at, left, output);
     let part = test.part;
-    let held = test.output;
+    let after_condition = test.output;
     let Part::Read { next } = part else {
-        return Answer { part, output: held };
+        return OutputAnswer {
+            part,
+            output: after_condition,
+        };
     };
     let then = expect(source, kind::THEN, next);
     let Part::Read { next: first } = then else {
-        return Answer {
+        return OutputAnswer {
             part: then,
-            output: held,
+            output: after_condition,
         };
     };
-    let one = expression(source, table, image, context, first, left, held);
+    let one = expression(source, table, image, context, first, left, after_condition);
     let one_part = one.part;
     let Part::Read { next: after } = one_part else {
         return one;
     };
-    let done = one.output;
-    let jump = relation::emit_hole(image, done);
-    let more = jump.output;
-    fill_jump(image, test.hole, more.code);
-    alternative(source, table, image, context, after, left, more, jump.hole)
+    let after_first = one.output;
+    let jump = relation::emit_hole(image, after_first);
+    let after_jump = jump.output;
+    fill_jump(image, test.hole, after_jump.next);
+    alternative(
+        source,
+        table,
+        image,
+        context,
+        after,
+        left,
+        after_jump,
+        jump.hole,
+    )
 }
 
 // `.ELSE` expression, and the jump past it filled in.
@@ -284,13 +297,13 @@ fn alternative(
     left: usize,
     output: Output,
     hole: u16,
-) -> Answer
-    ensures { λ r. ⌜ Alternates (basesOf context) exprWords (emittedBy output (now (image .entry))) (emittedBy (r .output) (now (image .exit))) hole (r .part)
-        (elseExpr (now (source .entry)) (exprAt (now (source .entry)) context (now (table .entry)) left) at) ⌝ }
+) -> OutputAnswer
+    ensures { λ r. ⌜ DoesThenFills hole exprWords context output (now (image .entry)) (now (image .exit)) r
+        (elseAt (now (source .entry)) context (now (table .entry)) left at) ⌝ }
 {
     let otherwise = expect(source, kind::ELSE, at);
     let Part::Read { next } = otherwise else {
-        return Answer {
+        return OutputAnswer {
             part: otherwise,
             output,
         };
@@ -300,9 +313,12 @@ fn alternative(
     let Part::Read { next: _ } = part else {
         return two;
     };
-    let held = two.output;
-    fill_jump(image, hole, held.code);
-    Answer { part, output: held }
+    let after_second = two.output;
+    fill_jump(image, hole, after_second.next);
+    OutputAnswer {
+        part,
+        output: after_second,
+    }
 }
 
 // An expression, with `left` levels of nesting left, its own among them.
@@ -314,13 +330,13 @@ pub fn expression(
     at: usize,
     left: usize,
     output: Output,
-) -> Answer
+) -> OutputAnswer
     ensures { λ r. ⌜ Does exprWords context output (now (image .entry)) (now (image .exit)) r
         (exprAt (now (source .entry)) context (now (table .entry)) left at) ⌝ }
 {
     if left == 0 {
         let part = too_deep_at(source, table, context.names, at);
-        return Answer { part, output };
+        return OutputAnswer { part, output };
     }
     let t = token_at(source, at);
     if t.kind == kind::IF {

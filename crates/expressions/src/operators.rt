@@ -1,28 +1,23 @@
 // Operations: an operator and its cell, or a shift and its amount, one after another.
-use crate::Answer;
+use crate::OutputAnswer;
 use crate::emit_read;
-use crate::words;
-use cells::Part;
+use crate::vocabulary;
 use cells::amount_at;
 use cells::cell::cell_at;
 use emitter::Context;
 use emitter::Output;
 use emitter::emit_shift;
+use parser::Part;
 use source::Token;
 use source::operator_at;
 ghost use mathlib.Core.List.{[], _∷_};
-ghost use Rattle.source.specs.Bytes.{between};
-ghost use Rattle.syntax.specs.Emission.{Sym, operationsWords};
-ghost use Rattle.syntax.specs.Cells.{parseInRange};
-ghost use Rattle.syntax.specs.Expressions.{parseOperations};
-ghost use Rattle.emitter.specs.Emitted.{emittedBy, basesOf};
-ghost use Rattle.expressions.specs.Chains.{operationAt};
-ghost use Rattle.expressions.specs.Compiles.{Turned, Does, namesAt};
+ghost use Rattle.layout.specs.Words.{Sym, operationsWords};
+ghost use Rattle.expressions.specs.Compiles.{Does, DoesTurn, amountAt, operationBy, operationsAt};
 
 // An operation's answer, if there is one.
 struct Turn {
     more: bool,
-    answer: Answer,
+    answer: OutputAnswer,
 }
 
 // A shift's amount, after the shift word.
@@ -34,19 +29,19 @@ fn shifted(
     kind: u16,
     at: usize,
     output: Output,
-) -> Answer
+) -> OutputAnswer
     ensures { λ r. ⌜ Does (λ n _. Sym.shift kind n ∷ []) context output (now (image .entry)) (now (image .exit)) r
-        (parseInRange (now (source .entry)) (namesAt context (now (table .entry))) (between 1 15) at) ⌝ }
+        (amountAt (now (source .entry)) context (now (table .entry)) at) ⌝ }
 {
     let amount = amount_at(source, table, context.names, at);
     let part = amount.part;
     let Part::Read { next } = part else {
-        return Answer { part, output };
+        return OutputAnswer { part, output };
     };
-    let more = emit_shift(image, output, kind, amount.value);
-    Answer {
+    let after_shift = emit_shift(image, output, kind, amount.value);
+    OutputAnswer {
         part: Part::Read { next },
-        output: more,
+        output: after_shift,
     }
 }
 
@@ -59,23 +54,22 @@ fn operation(
     t: Token,
     output: Output,
 ) -> Turn
-    ensures { λ r. ⌜ Turned (basesOf context) (emittedBy output (now (image .entry))) (emittedBy (r .answer .output) (now (image .exit)))
-        (r .more) (r .answer .part)
-        (operationAt (now (source .entry)) (namesAt context (now (table .entry))) t) ⌝ }
+    ensures { λ r. ⌜ DoesTurn context output (now (image .entry)) (now (image .exit)) r
+        (operationBy (now (source .entry)) context (now (table .entry)) t) ⌝ }
 {
-    let operator = words::operator(t.kind);
+    let operator = vocabulary::operator(t.kind);
     if 0 < operator {
         let read = cell_at(source, table, context.names, t.next);
         let answer = emit_read(image, context, operator - 1, read, output);
         return Turn { more: true, answer };
     }
-    let shift = words::shift_word(t.kind);
+    let shift = vocabulary::shift_word(t.kind);
     if 0 < shift {
         let answer = shifted(source, table, image, context, shift - 1, t.next, output);
         return Turn { more: true, answer };
     }
     let part = Part::Read { next: t.at };
-    let answer = Answer { part, output };
+    let answer = OutputAnswer { part, output };
     Turn {
         more: false,
         answer,
@@ -90,34 +84,37 @@ pub fn operations(
     context: Context,
     at: usize,
     output: Output,
-) -> Answer
+) -> OutputAnswer
     ensures { λ r. ⌜ Does (λ os _. operationsWords os) context output (now (image .entry)) (now (image .exit)) r
-        (parseOperations (now (source .entry)) (namesAt context (now (table .entry))) at) ⌝ }
+        (operationsAt (now (source .entry)) context (now (table .entry)) at) ⌝ }
 {
     let mut i = at;
-    let mut held = output;
+    let mut so_far = output;
     let mut k = source.len();
     while 0 < k {
         k -= 1;
         let t = operator_at(source, i);
-        let turn = operation(source, table, image, context, t, held);
+        let turn = operation(source, table, image, context, t, so_far);
         let one = turn.answer;
-        let laid = one.output;
+        let after_one = one.output;
         if !turn.more {
-            return Answer {
+            return OutputAnswer {
                 part: Part::Read { next: i },
-                output: laid,
+                output: after_one,
             };
         }
         let part = one.part;
         let Part::Read { next } = part else {
-            return Answer { part, output: laid };
+            return OutputAnswer {
+                part,
+                output: after_one,
+            };
         };
-        held = laid;
+        so_far = after_one;
         i = next;
     }
-    Answer {
+    OutputAnswer {
         part: Part::Read { next: i },
-        output: held,
+        output: so_far,
     }
 }

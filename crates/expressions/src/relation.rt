@@ -1,5 +1,5 @@
 // The words that end a condition: a test or what follows a relation's CAS, with the jump that is taken where it fails.
-use crate::Jumping;
+use crate::JumpAnswer;
 use emitter::Output;
 use emitter::emit_generic;
 use emitter::emit_jump;
@@ -8,57 +8,58 @@ use instruction::slot;
 use source::kind;
 ghost use mathlib.Core.List.{[], _∷_};
 ghost use Rattle.source.specs.Kinds;
-ghost use Rattle.syntax.specs.Emission.{Sym};
-ghost use Rattle.emitter.specs.Emitted.{emittedBy};
-ghost use Rattle.expressions.specs.Compiles.{AlwaysHoled, Jumps, Related};
+ghost use Rattle.layout.specs.Words.{Sym};
+ghost use Rattle.expressions.specs.Compiles.{AlwaysDecides, PutsHole, DecidesRelation};
 
 // A jump whose target is filled in later.
-pub fn emit_hole(image: &mut [u16], output: Output) -> Jumping
-    ensures { λ r. ⌜ Jumps output (now (image .entry)) r (now (image .exit)) ⌝ }
+pub fn emit_hole(image: &mut [u16], output: Output) -> JumpAnswer
+    ensures { λ r. ⌜ PutsHole output (now (image .entry)) r (now (image .exit)) ⌝ }
 {
-    let hole = output.code;
-    let more = emit_jump(image, output, 0);
-    Jumping { output: more, hole }
+    let hole = output.next;
+    let after_jump = emit_jump(image, output, 0);
+    JumpAnswer {
+        output: after_jump,
+        hole,
+    }
 }
 
 // A single test, by its slot.
-pub(crate) fn emit_test(image: &mut [u16], output: Output, slot: usize) -> Jumping
-    ensures { λ r. ⌜ AlwaysHoled (emittedBy output (now (image .entry))) (emittedBy (r .output) (now (image .exit)))
-        (λ at z. Sym.generic slot ∷ Sym.jump z ∷ []) (r .hole) ⌝ }
+pub(crate) fn emit_test(image: &mut [u16], output: Output, slot: usize) -> JumpAnswer
+    ensures { λ r. ⌜ AlwaysDecides (λ at z. Sym.generic slot ∷ Sym.jump z ∷ []) output (now (image .entry)) (now (image .exit)) r ⌝ }
 {
-    let more = emit_generic(image, output, slot);
-    emit_hole(image, more)
+    let after_skip = emit_generic(image, output, slot);
+    emit_hole(image, after_skip)
 }
 
 // `>`: greater goes on past the condition.
-fn emit_greater(image: &mut [u16], output: Output) -> Jumping
-    ensures { λ r. ⌜ Related Kinds.greater (emittedBy output (now (image .entry))) (emittedBy (r .output) (now (image .exit))) (r .hole) ⌝ }
+fn emit_greater(image: &mut [u16], output: Output) -> JumpAnswer
+    ensures { λ r. ⌜ DecidesRelation Kinds.greater output (now (image .entry)) (now (image .exit)) r ⌝ }
 {
     let past = emit_hole(image, output);
-    let first = past.output;
-    let more = emit_generic(image, first, slot::NOP);
-    let last = emit_hole(image, more);
-    let output = last.output;
-    fill_jump(image, past.hole, output.code);
+    let after_past = past.output;
+    let after_nop = emit_generic(image, after_past, slot::NOP);
+    let last = emit_hole(image, after_nop);
+    let after_last = last.output;
+    fill_jump(image, past.hole, after_last.next);
     last
 }
 
 // `<=`: greater fails, and the others go on over a NOP.
-fn emit_at_most(image: &mut [u16], output: Output) -> Jumping
-    ensures { λ r. ⌜ Related Kinds.atMost (emittedBy output (now (image .entry))) (emittedBy (r .output) (now (image .exit))) (r .hole) ⌝ }
+fn emit_at_most(image: &mut [u16], output: Output) -> JumpAnswer
+    ensures { λ r. ⌜ DecidesRelation Kinds.atMost output (now (image .entry)) (now (image .exit)) r ⌝ }
 {
     let first = emit_hole(image, output);
-    let jumped = first.output;
-    let more = emit_generic(image, jumped, slot::NOP);
-    Jumping {
-        output: more,
+    let after_jump = first.output;
+    let after_nop = emit_generic(image, after_jump, slot::NOP);
+    JumpAnswer {
+        output: after_nop,
         hole: first.hole,
     }
 }
 
 // The words of a relation after its CAS, by its token's kind.
-pub(crate) fn emit_relation(image: &mut [u16], output: Output, kind: u16) -> Jumping
-    ensures { λ r. ⌜ Related kind (emittedBy output (now (image .entry))) (emittedBy (r .output) (now (image .exit))) (r .hole) ⌝ }
+pub(crate) fn emit_relation(image: &mut [u16], output: Output, kind: u16) -> JumpAnswer
+    ensures { λ r. ⌜ DecidesRelation kind output (now (image .entry)) (now (image .exit)) r ⌝ }
 {
     if kind == kind::GREATER {
         return emit_greater(image, output);
@@ -73,9 +74,9 @@ pub(crate) fn emit_relation(image: &mut [u16], output: Output, kind: u16) -> Jum
         return emit_test(image, output, slot::NOP);
     }
     if kind == kind::EQUAL {
-        let more = emit_generic(image, output, slot::SKP);
-        return emit_test(image, more, slot::SKP);
+        let after_skip = emit_generic(image, output, slot::SKP);
+        return emit_test(image, after_skip, slot::SKP);
     }
-    let more = emit_generic(image, output, slot::NOP);
-    emit_test(image, more, slot::SKP)
+    let after_nop = emit_generic(image, output, slot::NOP);
+    emit_test(image, after_nop, slot::SKP)
 }

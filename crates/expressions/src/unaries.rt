@@ -1,5 +1,6 @@
-// Unary words. They stand before the term and their instructions after it, the last word's first, so they are read twice: to go past them, and to emit them from the end.
-use crate::words::unary;
+// Unary words. They stand before the term and their instructions after it, the last word's first, so they are read twice:
+// to go past them, and to emit them from the end.
+use crate::vocabulary::unary;
 use emitter::LAST_ADDRESS;
 use emitter::Output;
 use emitter::generic_word;
@@ -8,14 +9,13 @@ use instruction::slot;
 use source::kind;
 use source::token_at;
 ghost use mathlib.Core.Path.{_≡_};
-ghost use Prim.Native.Nat.{_+_, _-_, _≤_, min};
+ghost use Prim.Native.Nat.{_+_, _≤_, min};
 ghost use lib.ListN.{length};
 ghost use lib.Seq.{sets};
-ghost use Rattle.syntax.specs.Emission.{unariesWords};
-ghost use Rattle.emitter.specs.Emitted.{emittedBy, lastAddress};
-ghost use Rattle.expressions.specs.Chains.{unariesOf, unariesNext};
-ghost use Rattle.expressions.specs.Compiles.{Always};
-ghost use Rattle.expressions.specs.Unaries.{values, widthOf, unaryValues};
+ghost use Rattle.layout.specs.Emission.{lastAddress};
+ghost use Rattle.expressions.specs.Chains.{unariesNext};
+ghost use Rattle.expressions.specs.Compiles.{AlwaysDoes};
+ghost use Rattle.expressions.specs.Unaries.{widthOf, unaryValues, unaryWordsAt, placedBefore};
 
 // The offset after them. The turns are counted, as in the definition: each word takes a byte or more.
 pub fn unaries_next(source: &[u8], at: usize) -> usize
@@ -53,11 +53,11 @@ fn advance(at: u16, words: u16) -> u16
 }
 
 // The address after their instructions, up to the last.
-fn unaries_end(source: &[u8], at: usize, code: u16) -> u16
-    ensures { λ r. ⌜ r ≡ min lastAddress (code + length (unariesWords (unariesOf (now (source .entry)) at))) ⌝ }
+fn unaries_end(source: &[u8], at: usize, start: u16) -> u16
+    ensures { λ r. ⌜ r ≡ min lastAddress (start + length (unaryWordsAt (now (source .entry)) at)) ⌝ }
 {
     let mut i = at;
-    let mut end = code;
+    let mut end = start;
     let mut k = source.len();
     while 0 < k {
         k -= 1;
@@ -87,8 +87,8 @@ fn place_unary(image: &mut [u16], at: usize, kind: u16, last: u16)
 
 // Their instructions up to an address, from the end.
 fn place_unaries(source: &[u8], image: &mut [u16], at: usize, end: u16)
-    requires { ⌜ length (unariesWords (unariesOf (now source) at)) ≤ end ⌝ }
-    ensures { λ _. ⌜ now (image .exit) ≡ sets (now (image .entry)) (end - length (unariesWords (unariesOf (now (source .entry)) at))) (values (unariesWords (unariesOf (now (source .entry)) at))) ⌝ }
+    requires { ⌜ length (unaryWordsAt (now source) at) ≤ end ⌝ }
+    ensures { λ _. ⌜ now (image .exit) ≡ placedBefore end (unaryWordsAt (now (source .entry)) at) (now (image .entry)) ⌝ }
 {
     let mut i = at;
     let mut place = end;
@@ -108,13 +108,13 @@ fn place_unaries(source: &[u8], image: &mut [u16], at: usize, end: u16)
 
 // Their instructions. At the last address nothing is promised of the image.
 pub fn emit_unaries(source: &[u8], image: &mut [u16], at: usize, output: Output) -> Output
-    ensures { λ r. ⌜ Always (emittedBy output (now (image .entry))) (emittedBy r (now (image .exit))) (λ _. unariesWords (unariesOf (now (source .entry)) at)) ⌝ }
+    ensures { λ r. ⌜ AlwaysDoes (λ _. unaryWordsAt (now (source .entry)) at) output (now (image .entry)) (now (image .exit)) r ⌝ }
 {
     let pool = output.pool;
-    let end = unaries_end(source, at, output.code);
+    let end = unaries_end(source, at, output.next);
     if end == LAST_ADDRESS {
-        return Output { code: end, pool };
+        return Output { next: end, pool };
     }
     place_unaries(source, image, at, end);
-    Output { code: end, pool }
+    Output { next: end, pool }
 }

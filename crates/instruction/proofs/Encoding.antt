@@ -1,4 +1,4 @@
--- Decoding an encoded instruction gives it back, and a decoded one encodes its word. Assumes nothing.
+-- Decoding an encoded instruction gives it back, and a decoded one encodes its word.
 use Prim.Native.Nat.{ℕ, _+_, _-_, _*_, _/_, _%_, _≤_, _<_}
 use mathlib.Core.Path.{_≡_, refl, ap, sym, subst, _∙_}
 use mathlib.Core.Logic.{_⊎_, inl, inr}
@@ -12,9 +12,9 @@ use Rattle.word.specs.Arithmetic.{bit}
 use Rattle.word.specs.Shift.{LGR, ARR, LGL, ALR}
 use Rattle.instruction.specs.declared.Instruction.{Instruction}
 use Rattle.instruction.specs.declared.Instruction.the-variants.{Memory, Shift, Generic, Unknown}
-use Rattle.instruction.specs.Code.{JMP, IRS, LDX}
+use Rattle.instruction.specs.Opcode.{JMP, IRS, LDX}
 use Rattle.instruction.specs.Table.{Row, row, generics, tableOf}
-use Rattle.instruction.specs.Decode.{findWord, genericOf, isShift, shiftOf, flagAt, codeOf, memoryWith, memoryOf, decodeDef}
+use Rattle.instruction.specs.Decode.{findWord, genericOf, isShift, shiftOf, flagAt, opcodeOf, memoryWith, memoryOf, decodeDef}
 use Rattle.instruction.specs.Encode.{memoryWord, shiftWord, Encodes, memory, loadX, shift, generic}
 use Rattle.instruction.specs.Agreement.{UnknownExactly, Agreement}
 use Rattle.instruction.proofs.Every.{both, both-left, both-right}
@@ -43,18 +43,18 @@ bit-top w h =
     cond-when (λ (k : ℕ). k ≡ w / 32768) (leb 32768 w) 1 0 (λ e. omega (arith, leb-true 32768 w e)) (λ e. omega (arith, leb-false 32768 w e))
 
 -- a memory-reference instruction's word, taken apart
-record Parts (w code address : ℕ) (indirect tag sector : Bool) : Type 0 where
-  code-part : codeOf w ≡ code
+record Parts (w opcode address : ℕ) (indirect tag sector : Bool) : Type 0 where
+  code-part : opcodeOf w ≡ opcode
   indirect-part : leb 0o100000 w ≡ indirect
   tag-part : flagAt w 0o40000 ≡ tag
   sector-part : flagAt w 0o1000 ≡ sector
   address-part : w % 512 ≡ address
 
-parts : (code address : ℕ) (indirect tag sector : Bool) → code < 16 → address < 512
-    → Parts (memoryWord code indirect tag sector address) code address indirect tag sector
+parts : (opcode address : ℕ) (indirect tag sector : Bool) → opcode < 16 → address < 512
+    → Parts (memoryWord opcode indirect tag sector address) opcode address indirect tag sector
 unfolding memoryWord
-parts code address indirect tag sector coded nine =
-    let w = memoryWord code indirect tag sector address in
+parts opcode address indirect tag sector coded nine =
+    let w = memoryWord opcode indirect tag sector address in
     let i = bit-below indirect in
     let t = bit-below tag in
     let s = bit-below sector in
@@ -66,13 +66,13 @@ parts code address indirect tag sector coded nine =
       address-part = omega arith;
     }
 
-decode-memory : (code address : ℕ) (indirect tag sector : Bool) → JMP ≤ code → code ≤ IRS → address < 512
-    → decodeDef (memoryWord code indirect tag sector address) ≡ Memory code indirect tag sector address
+decode-memory : (opcode address : ℕ) (indirect tag sector : Bool) → JMP ≤ opcode → opcode ≤ IRS → address < 512
+    → decodeDef (memoryWord opcode indirect tag sector address) ≡ Memory opcode indirect tag sector address
 unfolding decodeDef memoryOf
-decode-memory code address indirect tag sector l h nine =
-    let p = parts code address indirect tag sector (omega arith) nine in
-    let z : eqb code 0 ≡ false = ne-eqb code 0 (λ e. omega arith) in
-    simp (p .code-part, z, le-leb code IRS h, p .indirect-part, p .tag-part, p .sector-part, p .address-part)
+decode-memory opcode address indirect tag sector l h nine =
+    let p = parts opcode address indirect tag sector (omega arith) nine in
+    let z : eqb opcode 0 ≡ false = ne-eqb opcode 0 (λ e. omega arith) in
+    simp (p .code-part, z, le-leb opcode IRS h, p .indirect-part, p .tag-part, p .sector-part, p .address-part)
 
 decode-loadX : (address : ℕ) (indirect sector : Bool) → address < 512
     → decodeDef (memoryWord LDX indirect true sector address) ≡ Memory LDX indirect false sector address
@@ -103,7 +103,7 @@ decode-shift kind n e l h =
     let k = kind-within kind e in
     let u = shift-word kind n (k .1) h in
     let q : w / 1024 ≡ 16 = omega arith in
-    let c : codeOf w ≡ 0 = omega arith in
+    let c : opcodeOf w ≡ 0 = omega arith in
     let t : w / 0o40000 ≡ 1 = omega arith in
     let m : w % 64 ≡ 64 - n = omega arith in
     let d : w / 64 ≡ kind = omega arith in
@@ -131,7 +131,7 @@ unfolding all-rows row-decodes isAt decodeDef genericOf findWord generics shiftO
 decode-generic slot word m = is-at slot (decodeDef word) (member-row row-decodes (row slot word) generics tt m)
 
 pub encoded : {i : Instruction} {w : ℕ} → Encodes i w → decodeDef w ≡ i
-encoded (memory {code} {address} {indirect} {tag} {sector} l h nine) = decode-memory code address indirect tag sector l h nine
+encoded (memory {opcode} {address} {indirect} {tag} {sector} l h nine) = decode-memory opcode address indirect tag sector l h nine
 encoded (loadX {address} {indirect} {sector} nine) = decode-loadX address indirect sector nine
 encoded (shift {kind} {n} e l h) = decode-shift kind n e l h
 encoded (generic {slot} {word} m) = decode-generic slot word m
@@ -142,11 +142,11 @@ joined : (w a b c d r s t u i : ℕ) → w ≡ a * 512 + r → a ≡ b * 2 + s �
 joined w a b c d r s t u i p q x y z = omega arith
 
 memory-word : (w : ℕ) (tag : Bool) → w < 65536 → bit tag ≡ w / 0o40000 % 2
-    → memoryWord (codeOf w) (leb 0o100000 w) tag (flagAt w 0o1000) (w % 512) ≡ w
+    → memoryWord (opcodeOf w) (leb 0o100000 w) tag (flagAt w 0o1000) (w % 512) ≡ w
 unfolding memoryWord
 memory-word w tag h t =
     let s = bit-of (w / 0o1000 % 2) (omega arith) in
-    let c : codeOf w % 16 ≡ codeOf w = omega arith in
+    let c : opcodeOf w % 16 ≡ opcodeOf w = omega arith in
     let a : w % 512 % 512 ≡ w % 512 = omega arith in
     let first : w ≡ w / 512 * 512 + w % 512 = omega arith in
     let second : w / 512 ≡ w / 1024 * 2 + w / 512 % 2 = omega arith in
@@ -182,19 +182,19 @@ shift-decoded w =
     inr (subst (Encodes (Shift (w / 64) (64 - w % 64))) (u ∙ q) (shift k (omega arith) (omega arith))))
     (λ k. inl refl))
 
-memory-decoded : (w : ℕ) → w < 65536 → (codeOf w ≡ 0 → ⊥) → Decoded w (memoryOf w)
+memory-decoded : (w : ℕ) → w < 65536 → (opcodeOf w ≡ 0 → ⊥) → Decoded w (memoryOf w)
 unfolding memoryOf Decoded
 memory-decoded w h some =
-    cond-when (Decoded w) (leb (codeOf w) IRS) (memoryWith (flagAt w 0o40000) w) _
+    cond-when (Decoded w) (leb (opcodeOf w) IRS) (memoryWith (flagAt w 0o40000) w) _
     (λ e. inr (subst (Encodes (memoryWith (flagAt w 0o40000) w)) (memory-word w (flagAt w 0o40000) h (bit-of (w / 0o40000 % 2) (omega arith)))
-    (memory (omega arith) (leb-true (codeOf w) IRS e) (omega arith))))
-    (λ e. cond-when (Decoded w) (eqb (codeOf w) LDX) _ Unknown
+    (memory (omega arith) (leb-true (opcodeOf w) IRS e) (omega arith))))
+    (λ e. cond-when (Decoded w) (eqb (opcodeOf w) LDX) _ Unknown
     (λ c. cond-when (Decoded w) (flagAt w 0o40000) (memoryWith false w) Unknown
-    (λ t. inr (index (eqb-true (codeOf w) LDX c) (eqb-true (w / 0o40000 % 2) 1 t)))
+    (λ t. inr (index (eqb-true (opcodeOf w) LDX c) (eqb-true (w / 0o40000 % 2) 1 t)))
     (λ t. inl refl))
     (λ c. inl refl))
   where
-    index : codeOf w ≡ LDX → w / 0o40000 % 2 ≡ 1 → Encodes (memoryWith false w) w
+    index : opcodeOf w ≡ LDX → w / 0o40000 % 2 ≡ 1 → Encodes (memoryWith false w) w
     index c t =
         subst (Encodes (memoryWith false w)) (memory-word w true h (sym t))
         (subst (λ (k : ℕ). Encodes (Memory k (leb 0o100000 w) false (flagAt w 0o1000) (w % 512)) (memoryWord k (leb 0o100000 w) true (flagAt w 0o1000) (w % 512)))
@@ -203,9 +203,9 @@ memory-decoded w h some =
 pub known : (w : ℕ) → w < 65536 → (decodeDef w ≡ Unknown) ⊎ Encodes (decodeDef w) w
 unfolding decodeDef Decoded
 known w h =
-    cond-when (Decoded w) (eqb (codeOf w) 0) _ (memoryOf w)
+    cond-when (Decoded w) (eqb (opcodeOf w) 0) _ (memoryOf w)
     (λ e. cond-all (Decoded w) (eqb (w / 0o40000) 1) (shift-decoded w) (generic-decoded w))
-    (λ e. memory-decoded w h (eqb-false (codeOf w) 0 e))
+    (λ e. memory-decoded w h (eqb-false (opcodeOf w) 0 e))
 
 not-unknown : {i : Instruction} {w : ℕ} → Encodes i w → i ≡ Unknown → ⊥
 not-unknown (memory l h nine) e = let z : _≡_ {A = ℕ} 0 1 = cc in omega arith

@@ -1,5 +1,5 @@
 -- A rule of a table, proved at all of its entries by one test that antt computes, one entry after the other.
--- Assumes nothing.
+--
 use mathlib.Core.Path.{_∙_, subst, sym}
 use mathlib.Core.Bool.{Bool, true, false}
 use mathlib.Core.List.{List, [], _∷_}

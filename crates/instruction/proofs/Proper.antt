@@ -1,4 +1,4 @@
--- What holds of every decoded instruction: an address has nine bits, and a shift's amount is 1 to 15. Assumes nothing.
+-- What holds of every decoded instruction: an address has nine bits, and a shift's amount is 1 to 15.
 use Prim.Native.Nat.{ℕ, _<_, _≤_, _/_, _%_}
 use mathlib.Core.List.{List, [], _∷_}
 use native.Mathlib.Omega.{arith}
@@ -6,13 +6,13 @@ use lib.Dec.{eqb, leb, ltb}
 use borrow.Author.Tests.{ltb-false}
 use Rattle.instruction.specs.declared.Instruction.{Instruction}
 use Rattle.instruction.specs.declared.Instruction.the-variants.{Memory, Shift, Generic, Unknown}
-use Rattle.instruction.specs.Code.{IRS, LDX}
+use Rattle.instruction.specs.Opcode.{IRS, LDX}
 use Rattle.instruction.specs.Table.{Row, generics}
-use Rattle.instruction.specs.Decode.{findWord, genericOf, isShift, shiftOf, flagAt, codeOf, memoryOf, decodeDef}
+use Rattle.instruction.specs.Decode.{findWord, genericOf, isShift, shiftOf, flagAt, opcodeOf, memoryOf, decodeDef}
 use Rattle.instruction.proofs.Choice.{cond-when, cond-all}
 
 abbrev pub Proper : Instruction → Type 0
-Proper (Memory code indirect tag sector address) = address < 512
+Proper (Memory opcode indirect tag sector address) = address < 512
 Proper (Shift kind n) = (1 ≤ n) × (n ≤ 15)
 Proper (Generic slot) = Unit {0}
 Proper Unknown = Unit {0}
@@ -35,12 +35,12 @@ shift-proper w =
 memory-proper : (w : ℕ) → Proper (memoryOf w)
 unfolding memoryOf
 memory-proper w =
-    cond-all Proper (leb (codeOf w) IRS) (omega arith)
-    (cond-all Proper (eqb (codeOf w) LDX) (cond-all Proper (flagAt w 0o40000) (omega arith) tt) tt)
+    cond-all Proper (leb (opcodeOf w) IRS) (omega arith)
+    (cond-all Proper (eqb (opcodeOf w) LDX) (cond-all Proper (flagAt w 0o40000) (omega arith) tt) tt)
 
 pub decode-proper : (w : ℕ) → Proper (decodeDef w)
 unfolding decodeDef
 decode-proper w =
-    cond-all Proper (eqb (codeOf w) 0)
+    cond-all Proper (eqb (opcodeOf w) 0)
     (cond-all Proper (eqb (w / 0o40000) 1) (shift-proper w) (generic-proper w))
     (memory-proper w)

@@ -1,5 +1,5 @@
 -- The decoder's table holds each generic instruction at its slot and nothing else: two tests that antt computes, and what follows for every word.
--- Assumes nothing.
+--
 use mathlib.Core.Path.{_≡_, refl, ap, sym, _∙_, subst}
 use mathlib.Core.Bool.{Bool, true, false, cond}
 use mathlib.Core.List.{List, [], _∷_}
@@ -16,14 +16,14 @@ use Rattle.instruction.proofs.Every.{both, both-left, both-right, at}
 
 -- whether an instruction is the generic one of a slot
 unfoldable pub isAt : ℕ → Instruction → Bool
-isAt i (Memory code indirect tag sector address) = false
+isAt i (Memory opcode indirect tag sector address) = false
 isAt i (Shift kind n) = false
 isAt i (Generic j) = eqb j i
 isAt i Unknown = false
 
 pub is-at : (i : ℕ) (o : Instruction) → T (isAt i o) → o ≡ Generic i
 unfolding isAt
-is-at i (Memory code indirect tag sector address) t = absurd t
+is-at i (Memory opcode indirect tag sector address) t = absurd t
 is-at i (Shift kind n) t = absurd t
 is-at i (Generic j) t = ap Generic (eqb→eq j i t)
 is-at i Unknown t = absurd t

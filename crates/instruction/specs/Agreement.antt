@@ -1,4 +1,4 @@
--- The decoder and the instruction table agree, in both directions. Assumes nothing.
+-- The decoder and the instruction table agree, in both directions.
 use Prim.Native.Nat.{ℕ, _<_}
 use mathlib.Core.Path.{_≡_}
 use mathlib.Core.Logic.{_⊎_}

@@ -1,4 +1,4 @@
--- What instruction a word is, as document 01's "Order table" has it. Assumes nothing.
+-- What instruction a word is, as document 01's "Order table" has it.
 use Prim.Native.Nat.{ℕ, _-_, _*_, _/_, _%_}
 use mathlib.Core.Bool.{Bool, true, false, cond}
 use mathlib.Core.List.{List, [], _∷_}
@@ -7,7 +7,7 @@ use lib.ListN.{getD}
 use Rattle.word.specs.Shift.{LGR, ARR, LGL, ALR}
 use Rattle.instruction.specs.declared.Instruction.{Instruction}
 use Rattle.instruction.specs.declared.Instruction.the-variants.{Memory, Shift, Generic, Unknown}
-use Rattle.instruction.specs.Code.{IRS, LDX}
+use Rattle.instruction.specs.Opcode.{IRS, LDX}
 use Rattle.instruction.specs.Table.{Row, generics}
 
 -- a generic instruction is the one whose word stands in the table
@@ -28,21 +28,21 @@ shiftOf w = cond (ltb (w % 64) 49) Unknown (cond (isShift (w / 64)) (Shift (w / 
 abbrev pub flagAt : ℕ → ℕ → Bool
 flagAt w bit = eqb (w / bit % 2) 1
 
-abbrev pub codeOf : ℕ → ℕ
-codeOf w = w / 0o2000 % 16
+abbrev pub opcodeOf : ℕ → ℕ
+opcodeOf w = w / 0o2000 % 16
 
 abbrev pub memoryWith : Bool → ℕ → Instruction
-memoryWith tag w = Memory (codeOf w) (leb 0o100000 w) tag (flagAt w 0o1000) (w % 512)
+memoryWith tag w = Memory (opcodeOf w) (leb 0o100000 w) tag (flagAt w 0o1000) (w % 512)
 
 -- "indirect '100000, tag '40000, code times '2000, sector bit '1000, nine address bits": JMP to IRS, and "LDX 15 with its tag set", whose tag adds no X
 unfoldable pub memoryOf : ℕ → Instruction
 memoryOf w =
-    cond (leb (codeOf w) IRS) (memoryWith (flagAt w 0o40000) w)
-    (cond (eqb (codeOf w) LDX) (cond (flagAt w 0o40000) (memoryWith false w) Unknown) Unknown)
+    cond (leb (opcodeOf w) IRS) (memoryWith (flagAt w 0o40000) w)
+    (cond (eqb (opcodeOf w) LDX) (cond (flagAt w 0o40000) (memoryWith false w) Unknown) Unknown)
 
--- code 0: a shift or a generic instruction
+-- opcode 0: a shift or a generic instruction
 abbrev pub decodeBy : (ℕ → Instruction) → ℕ → Instruction
-decodeBy generic w = cond (eqb (codeOf w) 0) (cond (eqb (w / 0o40000) 1) (shiftOf w) (generic w)) (memoryOf w)
+decodeBy generic w = cond (eqb (opcodeOf w) 0) (cond (eqb (w / 0o40000) 1) (shiftOf w) (generic w)) (memoryOf w)
 
 unfoldable pub decodeDef : ℕ → Instruction
 decodeDef w = decodeBy genericOf w

@@ -1,4 +1,4 @@
--- The words of instructions, as document 01's "Order table" has them. Assumes nothing.
+-- The words of instructions, as document 01's "Order table" has them.
 use Prim.Native.Nat.{ℕ, _+_, _-_, _*_, _≤_, _<_, _%_}
 use mathlib.Core.Bool.{Bool, true, false}
 use mathlib.Core.Path.{_≡_}
@@ -6,21 +6,21 @@ use mathlib.Core.List.{List·Memᴰ}
 use Rattle.word.specs.Arithmetic.{bit}
 use Rattle.instruction.specs.declared.Instruction.{Instruction}
 use Rattle.instruction.specs.declared.Instruction.the-variants.{Memory, Shift, Generic}
-use Rattle.instruction.specs.Code.{JMP, IRS, LDX}
+use Rattle.instruction.specs.Opcode.{JMP, IRS, LDX}
 use Rattle.instruction.specs.Table.{row, generics}
 use Rattle.instruction.specs.Decode.{isShift}
 
 unfoldable pub memoryWord : ℕ → Bool → Bool → Bool → ℕ → ℕ
-memoryWord code indirect tag sector address =
-    bit indirect * 0o100000 + bit tag * 0o40000 + code % 16 * 0o2000 + bit sector * 0o1000 + address % 512
+memoryWord opcode indirect tag sector address =
+    bit indirect * 0o100000 + bit tag * 0o40000 + opcode % 16 * 0o2000 + bit sector * 0o1000 + address % 512
 
 unfoldable pub shiftWord : ℕ → ℕ → ℕ
 shiftWord kind n = (kind * 64 + 64 - n % 64) % 65536
 
 -- the instruction table as a relation: the word of each instruction
 pub data Encodes : Instruction → ℕ → Type 0 where
-  memory : {code address : ℕ} {indirect tag sector : Bool} → JMP ≤ code → code ≤ IRS → address < 512
-      → Encodes (Memory code indirect tag sector address) (memoryWord code indirect tag sector address)
+  memory : {opcode address : ℕ} {indirect tag sector : Bool} → JMP ≤ opcode → opcode ≤ IRS → address < 512
+      → Encodes (Memory opcode indirect tag sector address) (memoryWord opcode indirect tag sector address)
   loadX : {address : ℕ} {indirect sector : Bool} → address < 512
       → Encodes (Memory LDX indirect false sector address) (memoryWord LDX indirect true sector address)
   shift : {kind n : ℕ} → isShift kind ≡ true → 1 ≤ n → n ≤ 15 → Encodes (Shift kind n) (shiftWord kind n)

@@ -1,4 +1,4 @@
-pub mod Code
+pub mod Opcode
 pub mod Slot
 pub mod Table
 pub mod Decode

@@ -1,5 +1,5 @@
 -- A generic instruction is known by its slot in the table. The slots have no meaning beyond that: they are where the decoder finds each word.
--- Assumes nothing.
+--
 use Prim.Native.Nat.{ℕ}
 
 abbrev pub HLT : ℕ

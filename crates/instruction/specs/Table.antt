@@ -1,4 +1,4 @@
--- The generic instructions, as document 01's "Order table" lists them. Assumes nothing.
+-- The generic instructions, as document 01's "Order table" lists them.
 use Prim.Native.Nat.{ℕ}
 use mathlib.Core.List.{List, [], _∷_}
 use Rattle.instruction.specs.Slot.{HLT, SKP, NOP, SRC, SSC, SS1, SS2, SS3, SS4, SSS, SSR, SZE, SNZ, SPL, SMI, SLZ, SLN, CRA, CMA, TCA, CHS, SSP, SSM, CSA, CAR, CAL, ICL, AOA, ACA, ICR, ICA}

@@ -10,7 +10,7 @@ use word::shift::ARR;
 use word::shift::LGL;
 use word::shift::LGR;
 
-pub mod code;
+pub mod opcode;
 pub mod slot;
 
 // The generic instructions, each at its slot. A slot that none has holds 0.
@@ -84,7 +84,7 @@ const TABLE: [u16; 64] = [
 pub enum Instruction {
     // The address is the nine bits. The tag says that X is added, so it is clear for LDX.
     Memory {
-        code: u16,
+        opcode: u16,
         indirect: bool,
         tag: bool,
         sector: bool,
@@ -159,21 +159,21 @@ fn shift(w: u16) -> Instruction
 fn memory(w: u16) -> Instruction
     ensures { λ r. ⌜ r ≡ memoryOf w ⌝ }
 {
-    let code = w / 0o2000 % 16;
+    let opcode = w / 0o2000 % 16;
     let tag = w / 0o40000 % 2 == 1;
-    if code <= code::IRS {
+    if opcode <= opcode::IRS {
         return Instruction::Memory {
-            code,
+            opcode,
             indirect: 0o100000 <= w,
             tag,
             sector: w / 0o1000 % 2 == 1,
             address: w % 512,
         };
     }
-    if code == code::LDX {
+    if opcode == opcode::LDX {
         if tag {
             return Instruction::Memory {
-                code,
+                opcode,
                 indirect: 0o100000 <= w,
                 tag: false,
                 sector: w / 0o1000 % 2 == 1,
@@ -198,12 +198,12 @@ pub fn decode(table: &[u16; 64], w: u16) -> Instruction
 }
 
 // The word of a memory-reference instruction; LDX is laid with its tag set.
-pub fn encode_memory(code: u16, indirect: bool, tag: bool, sector: bool, address: u16) -> u16
-    ensures { λ r. ⌜ r ≡ memoryWord code indirect tag sector address ⌝ }
+pub fn encode_memory(opcode: u16, indirect: bool, tag: bool, sector: bool, address: u16) -> u16
+    ensures { λ r. ⌜ r ≡ memoryWord opcode indirect tag sector address ⌝ }
 {
     word::bit(indirect) * 0o100000
         + word::bit(tag) * 0o40000
-        + code % 16 * 0o2000
+        + opcode % 16 * 0o2000
         + word::bit(sector) * 0o1000
         + address % 512
 }

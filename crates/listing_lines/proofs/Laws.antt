@@ -1,4 +1,4 @@
--- Texts written one after another, digits from the last, and the listing as `listingDef` has it. Assumes nothing.
+-- Texts written one after another, digits from the last, and the listing as `listingDef` has it.
 use Prim.Native.Nat.{ℕ, zero, suc, _+_, _-_, _/_, _%_, _≤_, _<_}
 use mathlib.Core.Path.{_≡_, refl, sym, ap, _∙_}
 use mathlib.Core.Bool.{Bool, true, false}
@@ -10,10 +10,11 @@ use borrow.Author.Tests.{lt-ltb, le-ltb}
 use lib.Dec.{ltb}
 use lib.ListN.{length, take, drop, set, getD, length-append, drop-of-length-le}
 use lib.Seq.{sets, set-comm, drop-cons, take-nil}
-use Rattle.source.specs.Bytes.{whether, bytes}
-use Rattle.syntax.specs.Tree.{Program}
-use Rattle.emission.specs.Compile.{Result}
-use Rattle.emission.specs.Listing.{digits, octal, decimalBy, decimal, line, wordLines, listingDef}
+use Rattle.prelude.specs.Choice.{whether}
+use Rattle.source.specs.Bytes.{bytes}
+use Rattle.tree.specs.Tree.{Program}
+use Rattle.compilation.specs.Compile.{Result}
+use Rattle.compilation.specs.Listing.{digits, octal, decimalBy, decimal, line, wordLines, listingDef}
 use Rattle.compiler.specs.Compile.{answerOf, imageAfter}
 use Rattle.compiler.specs.declared.Answer.{Answer}
 use Rattle.listing_lines.specs.Texts.{Wrote, digitsBy, lengthBy, wordLine, resultLines, countLines, resultFor, ListingLaws}

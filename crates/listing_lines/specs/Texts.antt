@@ -1,14 +1,15 @@
--- The listing as a text, and what is written of it. Assumes nothing.
-use Prim.Native.Nat.{ℕ, zero, suc, _+_, _/_, _%_}
+-- The listing as a text, and what is written of it.
+use Prim.Native.Nat.{ℕ, zero, suc, _+_, _/_, _%_, _≤_}
 use mathlib.Core.Path.{_≡_}
 use mathlib.Core.List.{List, [], _∷_, _++_}
 use lib.Dec.{ltb}
 use lib.ListN.{length}
 use lib.Seq.{sets}
-use Rattle.source.specs.Bytes.{whether, bytes}
-use Rattle.syntax.specs.Tree.{Program}
-use Rattle.emission.specs.Compile.{Result}
-use Rattle.emission.specs.Listing.{octal, decimal, line, listingDef}
+use Rattle.prelude.specs.Choice.{whether}
+use Rattle.source.specs.Bytes.{bytes}
+use Rattle.tree.specs.Tree.{Program}
+use Rattle.compilation.specs.Compile.{Result}
+use Rattle.compilation.specs.Listing.{octal, decimal, line, listingDef}
 use Rattle.compiler.specs.Compile.{answerOf, imageAfter}
 use Rattle.compiler.specs.declared.Answer.{Answer}
 use Rattle.compiler.specs.declared.Answer.the-variants.{Accepted, Failed}
@@ -21,6 +22,13 @@ limit = 4194304
 pub record Wrote (before after : List ℕ) (at next : ℕ) (text : List ℕ) : Type 0 where
   pub written : after ≡ sets before at text
   pub ends : next ≡ at + length text
+
+-- the same of a text of so many bytes, and of one of no more
+abbrev pub WroteJust : ℕ → List ℕ → List ℕ → ℕ → ℕ → List ℕ → Type 0
+WroteJust n before after at next text = Wrote before after at next text × (next ≡ at + n)
+
+abbrev pub WroteUpTo : ℕ → List ℕ → List ℕ → ℕ → ℕ → List ℕ → Type 0
+WroteUpTo n before after at next text = Wrote before after at next text × (next ≤ at + n)
 
 -- so many of a number's lowest digits in a base
 unfoldable pub digitsBy : ℕ → ℕ → ℕ → List ℕ
@@ -47,6 +55,12 @@ abbrev pub resultFor : Program → Answer → List ℕ → Result
 resultFor program (Accepted entry words globals) image =
     Result.accepted (record { program = program; image = image; entry = entry; words = words; globals = globals })
 resultFor program (Failed number at) image = Result.failed number at
+
+-- the listing stands at the buffer's start, as far as it goes, and its length is answered
+abbrev pub Listed : Answer → List ℕ → List ℕ → List ℕ → ℕ → Type 0
+Listed answer image before after next =
+    (program : Program)
+    → (after ≡ sets before 0 (listingDef (resultFor program answer image))) × (next ≡ length (listingDef (resultFor program answer image)))
 
 -- of what `compile` answers and leaves for a result, the lines are that result's
 abbrev pub ListingLaws : Type 0

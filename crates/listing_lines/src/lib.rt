@@ -1,12 +1,16 @@
 // The listing of document 01, written into a lent buffer from its start. Past its end nothing is stored, and the answer is the whole length.
 use compiler::Answer;
+use layout::addresses;
 ghost use mathlib.Core.Path.{_≡_};
 ghost use Prim.Native.Nat.{_+_, _*_, _≤_, _<_};
 ghost use lib.ListN.{length, take, drop, set};
-ghost use lib.Seq.{sets};
-ghost use Rattle.syntax.specs.Tree.{Program};
-ghost use Rattle.emission.specs.Listing.{decimal, line, wordLines, listingDef};
-ghost use Rattle.listing_lines.specs.Texts.{limit, Wrote, digitsBy, lengthBy, wordLine, resultLines, countLines, resultFor, ListingLaws};
+ghost use Rattle.compilation.specs.Listing.{decimal, line, wordLines};
+ghost use Rattle.listing_lines.specs.Texts.{limit, Wrote, WroteJust, WroteUpTo, Listed, ListingLaws};
+ghost use Rattle.listing_lines.specs.Texts.{digitsBy, lengthBy, wordLine, resultLines, countLines};
+
+const FIRST_GLOBAL: usize = addresses::FIRST_GLOBAL as usize;
+
+const FIRST_CODE: usize = addresses::FIRST_CODE as usize;
 
 fn store(out: &mut [u8], at: usize, byte: u8)
     ensures { λ _. ⌜ now (out .exit) ≡ set (now (out .entry)) at byte ⌝ }
@@ -31,7 +35,7 @@ fn put_text(out: &mut [u8], at: usize, text: &[u8]) -> usize
 // So many of a number's lowest digits, stored from the last.
 fn put_digits(out: &mut [u8], at: usize, count: usize, base: usize, n: usize) -> usize
     requires { ⌜ (0 < base) × (base ≤ 10) × (at + count ≤ limit) ⌝ }
-    ensures { λ r. ⌜ Wrote (now (out .entry)) (now (out .exit)) at r (digitsBy base count n) × (r ≡ at + count) ⌝ }
+    ensures { λ r. ⌜ WroteJust count (now (out .entry)) (now (out .exit)) at r (digitsBy base count n) ⌝ }
 {
     let mut k = count;
     let mut m = n;
@@ -62,7 +66,8 @@ fn decimal_length(n: usize) -> usize
 // A name and a number's digits.
 fn put_line(out: &mut [u8], at: usize, name: &[u8], count: usize, base: usize, n: usize) -> usize
     requires { ⌜ (0 < base) × (base ≤ 10) × (at + (length (now name) + (count + 1)) ≤ limit) ⌝ }
-    ensures { λ r. ⌜ Wrote (now (out .entry)) (now (out .exit)) at r (line (now (name .entry)) (digitsBy base count n)) × (r ≡ at + (length (now (name .entry)) + (count + 1))) ⌝ }
+    ensures { λ r. ⌜ WroteJust (length (now (name .entry)) + (count + 1)) (now (out .entry)) (now (out .exit)) at r
+        (line (now (name .entry)) (digitsBy base count n)) ⌝ }
 {
     let named = put_text(out, at, name);
     let valued = put_digits(out, named, count, base, n);
@@ -73,7 +78,7 @@ fn put_line(out: &mut [u8], at: usize, name: &[u8], count: usize, base: usize, n
 // A name and a number in decimal.
 fn put_number(out: &mut [u8], at: usize, name: &[u8], n: usize) -> usize
     requires { ⌜ at + (length (now name) + 21) ≤ limit ⌝ }
-    ensures { λ r. ⌜ Wrote (now (out .entry)) (now (out .exit)) at r (line (now (name .entry)) (decimal n)) × (r ≤ at + (length (now (name .entry)) + 21)) ⌝ }
+    ensures { λ r. ⌜ WroteUpTo (length (now (name .entry)) + 21) (now (out .entry)) (now (out .exit)) at r (line (now (name .entry)) (decimal n)) ⌝ }
 {
     put_line(out, at, name, decimal_length(n), 10, n)
 }
@@ -81,7 +86,7 @@ fn put_number(out: &mut [u8], at: usize, name: &[u8], n: usize) -> usize
 // The line of a word: 14 bytes and the name.
 fn put_word(out: &mut [u8], at: usize, name: &[u8], address: usize, word: u16) -> usize
     requires { ⌜ at + (length (now name) + 14) ≤ limit ⌝ }
-    ensures { λ r. ⌜ Wrote (now (out .entry)) (now (out .exit)) at r (wordLine (now (name .entry)) address word) × (r ≡ at + (length (now (name .entry)) + 14)) ⌝ }
+    ensures { λ r. ⌜ WroteJust (length (now (name .entry)) + 14) (now (out .entry)) (now (out .exit)) at r (wordLine (now (name .entry)) address word) ⌝ }
 {
     let named = put_text(out, at, name);
     let placed = put_digits(out, named, 6, 8, address);
@@ -98,7 +103,8 @@ fn put_words(
     count: u16,
 ) -> usize
     requires { ⌜ (length (now name) ≡ 2) × (at + 16 * count ≤ limit) ⌝ }
-    ensures { λ r. ⌜ Wrote (now (out .entry)) (now (out .exit)) at r (wordLines (now (name .entry)) first (take count (drop first (now (image .entry))))) × (r ≤ at + 16 * count) ⌝ }
+    ensures { λ r. ⌜ WroteUpTo (16 * count) (now (out .entry)) (now (out .exit)) at r
+        (wordLines (now (name .entry)) first (take count (drop first (now (image .entry))))) ⌝ }
 {
     let mut i = first;
     let mut next = at;
@@ -134,7 +140,7 @@ fn put_counts(out: &mut [u8], at: usize, entry: u16, words: u16, globals: u16) -
 
 // The listing's bytes, and how many they are.
 pub fn lines(answer: Answer, image: &[u16], out: &mut [u8]) -> usize
-    ensures { λ r. ⌜ ((program : Program) → (now (out .exit) ≡ sets (now (out .entry)) 0 (listingDef (resultFor program answer (now (image .entry))))) × (r ≡ length (listingDef (resultFor program answer (now (image .entry)))))) ⌝ }
+    ensures { λ r. ⌜ Listed answer (now (image .entry)) (now (out .entry)) (now (out .exit)) r ⌝ }
 {
     match answer {
         Answer::Accepted {
@@ -144,8 +150,8 @@ pub fn lines(answer: Answer, image: &[u16], out: &mut [u8]) -> usize
         } => {
             let first = put_result(out, 0, 0);
             let counted = put_counts(out, first, entry, words, globals);
-            let listed = put_words(out, image, counted, b"g=", 0o200, globals);
-            put_words(out, image, listed, b"w=", 0o1000, words)
+            let listed = put_words(out, image, counted, b"g=", FIRST_GLOBAL, globals);
+            put_words(out, image, listed, b"w=", FIRST_CODE, words)
         }
         Answer::Failed { number, at } => put_result(out, number, at),
     }

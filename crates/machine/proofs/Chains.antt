@@ -1,4 +1,4 @@
--- Chains of indirect words, one word at a time, and where they lead. Assumes nothing.
+-- Chains of indirect words, one word at a time, and where they lead.
 use Prim.Native.Nat.{ℕ, zero, suc, _-_, _<_, _≤_, _%_}
 use mathlib.Core.Path.{_≡_, refl, ap}
 use mathlib.Core.Bool.{Bool, true, false}

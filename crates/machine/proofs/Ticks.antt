@@ -1,4 +1,4 @@
--- The clock after many steps: their number, added modulo 2^32. Assumes nothing.
+-- The clock after many steps: their number, added modulo 2^32.
 use Prim.Native.Nat.{ℕ, zero, suc, _+_, _<_, _%_, _^_}
 use mathlib.Core.Path.{_≡_, ap, _∙_}
 use native.Mathlib.Omega.{arith}

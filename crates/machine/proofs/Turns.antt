@@ -1,4 +1,4 @@
--- A run, one step at a time, and as the loop that makes the steps sees it. Assumes nothing.
+-- A run, one step at a time, and as the loop that makes the steps sees it.
 use Prim.Native.Nat.{ℕ, zero, suc, _<_, _-_, _+_}
 use mathlib.Core.Path.{_≡_, ap, _∙_}
 use mathlib.Core.Bool.{true, false}

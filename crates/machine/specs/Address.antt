@@ -1,4 +1,4 @@
--- The effective address, as document 01's "Order table" forms it. Assumes nothing.
+-- The effective address, as document 01's "Order table" forms it.
 use Prim.Native.Nat.{ℕ, zero, suc, _+_, _-_, _*_, _/_, _%_}
 use mathlib.Core.Bool.{Bool, cond}
 use mathlib.Core.List.{List}

@@ -1,4 +1,4 @@
--- The service clock, as document 01's "Run and clock" has it. Assumes nothing.
+-- The service clock, as document 01's "Run and clock" has it.
 use Prim.Native.Nat.{ℕ, zero, suc, _+_, _-_, _%_, _^_}
 use mathlib.Core.Bool.{Bool}
 use lib.Dec.{ltb}

@@ -1,4 +1,4 @@
--- The machine's failures by their numbers in document 01's "Failures". Assumes nothing.
+-- The machine's failures by their numbers in document 01's "Failures".
 use Prim.Native.Nat.{ℕ}
 use mathlib.Core.Bool.{Bool, true, false, cond}
 use lib.Dec.{eqb}

@@ -1,6 +1,8 @@
--- A run of steps on a budget, as document 01's "Run and clock" and "Failures" have it. Assumes nothing.
+-- A run of steps on a budget, as document 01's "Run and clock" and "Failures" have it.
 use Prim.Native.Nat.{ℕ, zero, suc, _+_}
+use mathlib.Core.Path.{_≡_}
 use mathlib.Core.Bool.{cond}
+use mathlib.Core.List.{List}
 use lib.Dec.{eqb, ltb}
 use lib.ListN.{length}
 use Rattle.machine.specs.declared.Clock.{Clock}
@@ -51,3 +53,7 @@ endedOf q k n o m = record { steps = n; outcome = o; machine = m; clock = spendM
 
 abbrev pub reportOf : Request → Clock → Ran → Report
 reportOf q k r = endedOf q k (r .steps) (r .outcome) (r .state .machine)
+
+-- a call reports this run, and leaves its image
+abbrev pub Reports : Request → Clock → Ran → Report → List ℕ → Type 0
+Reports q k r answer after = (answer ≡ reportOf q k r) × (after ≡ r .state .image)

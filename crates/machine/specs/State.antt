@@ -1,4 +1,4 @@
--- The machine's state: the registers by value and the image, whose word 0 is X. Assumes nothing.
+-- The machine's state: the registers by value and the image, whose word 0 is X.
 use Prim.Native.Nat.{ℕ, _<_}
 use mathlib.Core.Path.{_≡_}
 use lib.ListN.{length}
@@ -23,6 +23,10 @@ withRegisters m r = record { registers = r; p = m .p; switches = m .switches; ha
 
 abbrev pub stopped : Machine → Machine
 stopped m = record { registers = m .registers; p = m .p; switches = m .switches; halted = true }
+
+-- a call leaves this state: its answer is the machine, and the image is in what it was lent
+abbrev pub Leaves : State → Machine → List ℕ → Type 0
+Leaves s answer after = (answer ≡ s .machine) × (after ≡ s .image)
 
 -- what a run asks of a state: an image of 16,384 words, and P in it
 abbrev pub Good : State → Type 0

@@ -1,11 +1,12 @@
--- One step of the machine, as document 01's "Order table" has it. Assumes nothing.
+-- One step of the machine, as document 01's "Order table" has it.
 use Prim.Native.Nat.{ℕ, _+_, _*_, _/_, _%_}
+use mathlib.Core.Path.{_≡_}
 use mathlib.Core.Bool.{cond}
 use mathlib.Core.List.{List}
 use lib.Dec.{eqb}
 use lib.ListN.{getD, set}
 use Rattle.word.specs.Arithmetic.{bit, compareOf}
-use Rattle.instruction.specs.Code.{JMP, STA, JST, CAS, IRS, LDX}
+use Rattle.instruction.specs.Opcode.{JMP, STA, JST, CAS, IRS, LDX}
 use Rattle.instruction.specs.Slot.{HLT}
 use Rattle.instruction.specs.Decode.{decodeDef}
 use Rattle.instruction.specs.declared.Instruction.{Instruction}
@@ -37,16 +38,16 @@ incrementDef e m image =
 
 -- a memory-reference instruction at its effective address e
 unfoldable pub memoryDef : ℕ → ℕ → Machine → List ℕ → State
-memoryDef code e m image =
+memoryDef opcode e m image =
     let v = getD image e 0 in
-    cond (eqb code JMP) (state (atP m e) image)
-    (cond (eqb code STA) (state (onward m 0) (set image e (m .registers .a)))
+    cond (eqb opcode JMP) (state (atP m e) image)
+    (cond (eqb opcode STA) (state (onward m 0) (set image e (m .registers .a)))
     -- "JST keeps the target's top two bits"
-    (cond (eqb code JST) (state (atP m (pastOf e 0)) (set image e (v / 16384 * 16384 + pastOf (m .p) 0)))
-    (cond (eqb code CAS) (state (onward m (compareOf (m .registers .a) v)) image)
-    (cond (eqb code IRS) (incrementDef e m image)
-    (cond (eqb code LDX) (state (onward m 0) (set image 0 v))
-    (state (onward (withRegisters m (operateOf code v (m .registers))) 0) image))))))
+    (cond (eqb opcode JST) (state (atP m (pastOf e 0)) (set image e (v / 16384 * 16384 + pastOf (m .p) 0)))
+    (cond (eqb opcode CAS) (state (onward m (compareOf (m .registers .a) v)) image)
+    (cond (eqb opcode IRS) (incrementDef e m image)
+    (cond (eqb opcode LDX) (state (onward m 0) (set image 0 v))
+    (state (onward (withRegisters m (operateOf opcode v (m .registers))) 0) image))))))
 
 -- a generic instruction skips, or changes A and C, or neither; "HLT counts; P then points after it"
 unfoldable pub genericDef : ℕ → Machine → Machine
@@ -60,11 +61,11 @@ pub data Step : Type 0 where
   failed : ℕ → Step
 
 abbrev pub memoryStep : ℕ → Machine → List ℕ → Address → Step
-memoryStep code m image (At e passed) = made (memoryDef code e m image)
-memoryStep code m image Long = failed longChain
+memoryStep opcode m image (At e passed) = made (memoryDef opcode e m image)
+memoryStep opcode m image Long = failed longChain
 
 abbrev pub perform : Machine → List ℕ → Instruction → Step
-perform m image (Memory code indirect tag sector address) = memoryStep code m image (addressOf image (m .p) indirect tag sector address)
+perform m image (Memory opcode indirect tag sector address) = memoryStep opcode m image (addressOf image (m .p) indirect tag sector address)
 perform m image (Shift kind n) = made (state (onward (withRegisters m (shiftedOf kind n (m .registers))) 0) image)
 perform m image (Generic slot) = made (state (genericDef slot m) image)
 perform m image Unknown = failed unknownWord
@@ -73,10 +74,14 @@ unfoldable pub stepDef : State → Step
 stepDef s = perform (s .machine) (s .image) (decodeDef (getD (s .image) (s .machine .p) 0))
 
 -- what the step's function answers, and the image that it leaves
-abbrev pub answerOf : Step → Stepped
-answerOf (made s) = Made (s .machine)
-answerOf (failed n) = Failed n
+abbrev pub steppedOf : Step → Stepped
+steppedOf (made s) = Made (s .machine)
+steppedOf (failed n) = Failed n
 
-abbrev pub imageOf : List ℕ → Step → List ℕ
-imageOf image (made s) = s .image
-imageOf image (failed n) = image
+abbrev pub imageLeft : List ℕ → Step → List ℕ
+imageLeft image (made s) = s .image
+imageLeft image (failed n) = image
+
+-- a call makes this step, on an image that was so before
+abbrev pub Makes : List ℕ → Step → Stepped → List ℕ → Type 0
+Makes before step answer after = (answer ≡ steppedOf step) × (after ≡ imageLeft before step)

@@ -4,7 +4,7 @@ ghost use Prim.Native.Nat.{_<_};
 ghost use lib.ListN.{length};
 ghost use Rattle.machine.specs.State.{state};
 ghost use Rattle.machine.specs.Clock.{spendMany, dueOf};
-ghost use Rattle.machine.specs.Run.{endedOf, runFrom, runDef, reportOf};
+ghost use Rattle.machine.specs.Run.{endedOf, runFrom, runDef, Reports};
 use effect::Registers;
 use effect::Switches;
 use step::Stepped;
@@ -77,7 +77,7 @@ fn ended(q: Request, steps: u32, outcome: Outcome, m: Machine, k: Clock) -> Repo
 // Up to the budget's steps, on an image of the right length with P in it.
 fn steps(image: &mut [u16], m: Machine, k: Clock, q: Request) -> Report
     requires { ⌜ (length (now image) ≡ 16384) × (m .p < 16384) ⌝ }
-    ensures { λ r. ⌜ (r ≡ reportOf q k (runFrom (q .budget) (state m (now (image .entry))))) × (now (image .exit) ≡ runFrom (q .budget) (state m (now (image .entry))) .state .image) ⌝ }
+    ensures { λ r. ⌜ Reports q k (runFrom (q .budget) (state m (now (image .entry)))) r (now (image .exit)) ⌝ }
 {
     let table = instruction::table();
     let budget = q.budget;
@@ -104,7 +104,7 @@ fn steps(image: &mut [u16], m: Machine, k: Clock, q: Request) -> Report
 }
 
 pub fn run(image: &mut [u16], machine: Machine, clock: Clock, request: Request) -> Report
-    ensures { λ r. ⌜ (r ≡ reportOf request clock (runDef request (state machine (now (image .entry))))) × (now (image .exit) ≡ runDef request (state machine (now (image .entry))) .state .image) ⌝ }
+    ensures { λ r. ⌜ Reports request clock (runDef request (state machine (now (image .entry)))) r (now (image .exit)) ⌝ }
 {
     if image.len() != IMAGE_WORDS {
         return ended(

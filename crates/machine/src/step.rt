@@ -3,15 +3,15 @@ ghost use mathlib.Core.Path.{_≡_};
 ghost use Prim.Native.Nat.{_<_};
 ghost use lib.ListN.{length};
 ghost use Rattle.instruction.specs.Table.{tableOf};
-ghost use Rattle.machine.specs.State.{state, withRegisters};
-ghost use Rattle.machine.specs.Step.{pastOf, onward, incrementDef, memoryDef, genericDef, stepDef, answerOf, imageOf};
+ghost use Rattle.machine.specs.State.{state, withRegisters, Leaves};
+ghost use Rattle.machine.specs.Step.{pastOf, onward, incrementDef, memoryDef, genericDef, stepDef, Makes};
 use crate::Machine;
 use crate::address;
 use crate::address::Address;
 use crate::failure;
 use effect::Registers;
 use instruction::Instruction;
-use instruction::code;
+use instruction::opcode;
 use instruction::slot;
 
 // A step made, or the failure's number.
@@ -42,7 +42,7 @@ fn advance(m: Machine, r: Registers, k: u16) -> Machine
 // IRS at its effective address e.
 fn increment(image: &mut [u16], m: Machine, e: u16) -> Machine
     requires { ⌜ (length (now image) ≡ 16384) × (m .p < 16384) × (e < 16384) ⌝ }
-    ensures { λ r. ⌜ (r ≡ incrementDef e m (now (image .entry)) .machine) × (now (image .exit) ≡ incrementDef e m (now (image .entry)) .image) ⌝ }
+    ensures { λ r. ⌜ Leaves (incrementDef e m (now (image .entry))) r (now (image .exit)) ⌝ }
 {
     let mut n = m;
     let w = ((image[e as usize] as u32 + 1) % 65536) as u16;
@@ -52,41 +52,41 @@ fn increment(image: &mut [u16], m: Machine, e: u16) -> Machine
 }
 
 // A memory-reference instruction at its effective address e.
-fn memory(image: &mut [u16], m: Machine, code: u16, e: u16) -> Machine
+fn memory(image: &mut [u16], m: Machine, opcode: u16, e: u16) -> Machine
     requires { ⌜ (length (now image) ≡ 16384) × (m .p < 16384) × (e < 16384) ⌝ }
-    ensures { λ r. ⌜ (r ≡ memoryDef code e m (now (image .entry)) .machine) × (now (image .exit) ≡ memoryDef code e m (now (image .entry)) .image) ⌝ }
+    ensures { λ r. ⌜ Leaves (memoryDef opcode e m (now (image .entry))) r (now (image .exit)) ⌝ }
 {
     let r = m.registers;
     let p = m.p;
     let a = r.a;
     let mut n = m;
     let v = image[e as usize];
-    match code {
-        code::JMP => {
+    match opcode {
+        opcode::JMP => {
             n.p = e;
             n
         }
-        code::STA => {
+        opcode::STA => {
             image[e as usize] = a;
             n.p = past(p, 0);
             n
         }
-        code::JST => {
+        opcode::JST => {
             image[e as usize] = v / 16384 * 16384 + past(p, 0);
             n.p = past(e, 0);
             n
         }
-        code::CAS => {
+        opcode::CAS => {
             n.p = past(p, word::compare(a, v));
             n
         }
-        code::IRS => increment(&mut *image, m, e),
-        code::LDX => {
+        opcode::IRS => increment(&mut *image, m, e),
+        opcode::LDX => {
             image[0] = v;
             n.p = past(p, 0);
             n
         }
-        _ => advance(m, effect::operate(code, v, r), 0),
+        _ => advance(m, effect::operate(opcode, v, r), 0),
     }
 }
 
@@ -107,13 +107,13 @@ fn generic(m: Machine, slot: usize) -> Machine
 
 pub fn step(table: &[u16; 64], image: &mut [u16], m: Machine) -> Stepped
     requires { ⌜ (now table ≡ tableOf) × (length (now image) ≡ 16384) × (m .p < 16384) ⌝ }
-    ensures { λ r. ⌜ (r ≡ answerOf (stepDef (state m (now (image .entry))))) × (now (image .exit) ≡ imageOf (now (image .entry)) (stepDef (state m (now (image .entry))))) ⌝ }
+    ensures { λ r. ⌜ Makes (now (image .entry)) (stepDef (state m (now (image .entry)))) r (now (image .exit)) ⌝ }
 {
     let p = m.p;
     let i = instruction::decode(table, image[p as usize]);
     match i {
         Instruction::Memory {
-            code,
+            opcode,
             indirect,
             tag,
             sector,
@@ -122,7 +122,7 @@ pub fn step(table: &[u16; 64], image: &mut [u16], m: Machine) -> Stepped
             let first = address::indexed(&*image, address::base(p, sector, address), tag);
             let found = address::follow(&*image, indirect, first);
             match found {
-                Address::At(e, _) => Stepped::Made(memory(&mut *image, m, code, e)),
+                Address::At(e, _) => Stepped::Made(memory(&mut *image, m, opcode, e)),
                 Address::Long => Stepped::Failed(failure::LONG_CHAIN),
             }
         }

@@ -1,4 +1,4 @@
--- Numbers that pass the test of a machine's have what the test says. Assumes nothing.
+-- Numbers that pass the test of a machine's have what the test says.
 use Prim.Native.Nat.{ℕ}
 use mathlib.Core.Path.{_≡_, refl}
 use mathlib.Core.Bool.{Bool, true, false, cond}

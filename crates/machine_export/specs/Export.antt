@@ -1,6 +1,6 @@
 -- A run for other languages: the machine, the clock and the request as fourteen numbers, in this order.
 -- Before the run: 0 A, 1 B, 2 C, 3 P, 4 to 7 the sense switches, 8 halted, 9 the clock, 10 the budget. C, a switch and halted are 0 or 1.
--- After it also: 11 the outcome, 12 the failure's number or 0, 13 the steps made. Assumes nothing.
+-- After it also: 11 the outcome, 12 the failure's number or 0, 13 the steps made.
 use mathlib.Core.Path.{_≡_}
 use Prim.Native.Nat.{ℕ, suc, _≤_}
 use mathlib.Core.Bool.{Bool, true, false, cond}
@@ -86,9 +86,14 @@ withReport words r =
 abbrev pub ranOf : List ℕ → List ℕ → Ran
 ranOf words image = runDef (requestOf words) (state (machineOf words) image)
 
-abbrev pub imageAfter : List ℕ → List ℕ → List ℕ
-imageAfter words image = cond (fitsOf words) (ranOf words image .state .image) image
+abbrev pub memoryLeft : List ℕ → List ℕ → List ℕ
+memoryLeft words image = cond (fitsOf words) (ranOf words image .state .image) image
 
-abbrev pub wordsAfter : List ℕ → List ℕ → List ℕ
-wordsAfter words image =
+abbrev pub wordsLeft : List ℕ → List ℕ → List ℕ
+wordsLeft words image =
     cond (fitsOf words) (withReport words (reportOf (requestOf words) (clockOf words) (ranOf words image))) words
+
+-- a call on both lists: its answer says whether the numbers were a machine's, and so whether there was a run
+abbrev pub Called : List ℕ → List ℕ → Bool → List ℕ → List ℕ → Type 0
+Called words image answer words-after image-after =
+    (answer ≡ fitsOf words) × (image-after ≡ memoryLeft words image) × (words-after ≡ wordsLeft words image)

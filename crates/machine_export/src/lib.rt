@@ -5,7 +5,7 @@ ghost use lib.ListN.{length};
 ghost use Rattle.word.specs.Arithmetic.{bit};
 ghost use Rattle.machine.specs.Failure.{failureOf};
 ghost use Rattle.machine.specs.Clock.{dueOf};
-ghost use Rattle.machine_export.specs.Export.{wordsFit, flagsFit, Fitting, fitsOf, flagOf, machineOf, outcomeOf, withMachine, withReport, imageAfter, wordsAfter};
+ghost use Rattle.machine_export.specs.Export.{wordsFit, flagsFit, Fitting, fitsOf, flagOf, machineOf, outcomeOf, withMachine, withReport, Called};
 use effect::Registers;
 use effect::Switches;
 use machine::Clock;
@@ -186,7 +186,7 @@ fn put_report(words: &mut [u32], r: Report)
 // A run, and true; or false for numbers that are no machine's, and nothing changes.
 #[no_mangle]
 pub extern "C" fn machine_run(image: &mut [u16], words: &mut [u32]) -> bool
-    ensures { λ r. ⌜ (r ≡ fitsOf (now (words .entry))) × (now (image .exit) ≡ imageAfter (now (words .entry)) (now (image .entry))) × (now (words .exit) ≡ wordsAfter (now (words .entry)) (now (image .entry))) ⌝ }
+    ensures { λ r. ⌜ Called (now (words .entry)) (now (image .entry)) r (now (words .exit)) (now (image .exit)) ⌝ }
 {
     if fits(&*words) {
         let m = machine_of(&*words);

@@ -1,4 +1,5 @@
-// Document 01's cases that are not starred, by name: the listing of each, what is left in the image and in scratch, and how the image of an accepted one runs.
+// Document 01's cases of the compiler that proved_cases does not have, by name: the listing of each, what is left in the image and in scratch,
+// and how the image of an accepted one runs.
 use case_input::parse_number;
 use case_input::part_end;
 use compiler::Answer;
@@ -124,7 +125,8 @@ fn run_source(source: &[u8]) {
     }
 }
 
-// The case at `at`: the length of its name, the words of image and scratch, the length of its source, then the name and the source, a line each. Answers where the next one starts.
+// The case at `at`: the length of its name, the words of image and scratch, the length of its source, then the name and the source, a line each.
+// Answers where the next one starts.
 fn case(text: &[u8], at: usize) -> usize {
     let name = parse_number(text, at);
     let image = parse_number(text, name.next);

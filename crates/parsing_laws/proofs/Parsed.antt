@@ -1,4 +1,4 @@
--- One walk over parsing: what is got is well-formed, and every failure is numbered and placed in the text. Assumes nothing.
+-- One walk over parsing: what is got is well-formed, and every failure is numbered and placed in the text.
 pub mod Choices
 pub mod Words
 pub mod Parts

@@ -1,8 +1,8 @@
 -- Worked examples, decided by computation: a text that ends, and one that is failed at its last byte.
 use mathlib.Core.Path.{_≡_, refl}
 use Rattle.source.specs.Bytes.{bytes}
-use Rattle.emission.specs.Compile.{Result, compileDef}
-use Rattle.emission.specs.Computed.{computed}
+use Rattle.compilation.specs.Compile.{Result, compileDef}
+use Rattle.compilation.specs.Computed.{computed}
 
 ended : compileDef (bytes ".BEGIN X=1") ≡ Result.failed 6 10
 unfolding computed

@@ -3,7 +3,7 @@ use Prim.Native.Nat.{ℕ, _≤_, _<_}
 use mathlib.Core.Path.{_≡_}
 use mathlib.Core.List.{List}
 use lib.ListN.{length}
-use Rattle.emission.specs.Compile.{Result, compileDef}
+use Rattle.compilation.specs.Compile.{Result, compileDef}
 
 -- what the failure of a source that does not compile may be
 pub record Numbered (source : List ℕ) (n at : ℕ) : Type 0 where

@@ -1,13 +1,14 @@
--- What holds of every program that is accepted: each name in the tree is declared, nesting and numbers are in range, and everything fits. Assumes nothing.
+-- What holds of every program that is accepted: each name in the tree is declared, nesting and numbers are in range, and everything fits.
 use Prim.Native.Nat.{ℕ, zero, suc, _+_, _≤_, _<_}
 use mathlib.Core.Path.{_≡_}
 use mathlib.Core.List.{List, [], _∷_, _++_}
 use lib.ListN.{length, getD}
-use Rattle.syntax.specs.Tree.{Id, Array, Operand, Subscript, Cell, Operation, Expr, Term, Cond, Target, Stmt, Stmts, Name, Item, Declaration, Program}
-use Rattle.syntax.specs.State.{State, stateAfter, localWords}
-use Rattle.syntax.specs.Limits.{arrayLimit, declarationLimit, mainLimit}
-use Rattle.syntax.specs.Parse.Got.{got}
-use Rattle.syntax.specs.Program.{parseProgram}
+use Rattle.tree.specs.Tree.{Id, Array, Operand, Subscript, Cell, Operation, Expr, Term, Cond, Target, Stmt, Stmts, Name, Item, Declaration, Program}
+use Rattle.layout.specs.Allocation.{Allocation, allocated, localWords}
+use Rattle.layout.specs.Limits.{spaceLimit, declarationLimit, mainLimit}
+use Rattle.grammar.specs.Parse.Got.{got}
+use Rattle.grammar.specs.Program.{parseProgram}
+use Rattle.layout.specs.Addresses.{globalWords}
 
 -- P holds of each of a list
 abbrev pub All : {A : Type 0} → (A → Type 0) → List A → Type 0
@@ -152,25 +153,25 @@ LocalsOk ls = All (λ (l : Name × Item). ValueOk (l .1)) ls
 abbrev pub WordsOk : List ℕ → Type 0
 WordsOk vs = All (λ (v : ℕ). v < 65536) vs
 
--- a declaration under the state and the kinds of those before it: its word of sector 0, its values, its body, and its space
-abbrev pub DeclarationOk : State → List Kind → Declaration → Type 0
-DeclarationOk st kinds (Declaration.item name item) = ValueOk item × (st .scope .words + length (itemKinds item) ≤ 384)
+-- a declaration under the allocation and the kinds of those before it: its word of sector 0, its values, its body, and its space
+abbrev pub DeclarationOk : Allocation → List Kind → Declaration → Type 0
+DeclarationOk st kinds (Declaration.item name item) = ValueOk item × (st .scope .taken + length (itemKinds item) ≤ globalWords)
 DeclarationOk st kinds (Declaration.array name size values) =
-    (st .scope .words < 384) × (size ≤ 8192) × (length values ≤ size) × WordsOk values × (arrayLimit st size ≡ 0)
+    (st .scope .taken < globalWords) × (size ≤ 8192) × (length values ≤ size) × WordsOk values × (spaceLimit st size ≡ 0)
 DeclarationOk st kinds (Declaration.procedure name accumulator locals body) =
-    (st .scope .words < 384) × LocalsOk locals
-    × StmtsBy (StmtOk (record { globals = kinds; own = st .scope .words; locals = localWords st name locals }) 33) body
+    (st .scope .taken < globalWords) × LocalsOk locals
+    × StmtsBy (StmtOk (record { globals = kinds; own = st .scope .taken; locals = localWords st name locals }) 33) body
     × (declarationLimit st (Declaration.procedure name accumulator locals body) ≡ 0)
 DeclarationOk st kinds Declaration.nextSector = declarationLimit st Declaration.nextSector ≡ 0
 
 pub data DeclarationsOk : List Declaration → Type 0 where
   none : DeclarationsOk []
-  more : (ds : List Declaration) (d : Declaration) → DeclarationsOk ds → DeclarationOk (stateAfter ds) (kindsOf ds) d → DeclarationsOk (ds ++ (d ∷ []))
+  more : (ds : List Declaration) (d : Declaration) → DeclarationsOk ds → DeclarationOk (allocated ds) (kindsOf ds) d → DeclarationsOk (ds ++ (d ∷ []))
 
 pub record WellFormed (p : Program) : Type 0 where
   pub declarations : DeclarationsOk (p .declarations)
   pub main : StmtsBy (StmtOk (record { globals = kindsOf (p .declarations); own = 0; locals = 0 }) 33) (p .main)
-  pub fits : mainLimit (stateAfter (p .declarations)) (p .main) ≡ 0
+  pub fits : mainLimit (allocated (p .declarations)) (p .main) ≡ 0
 
 abbrev pub AcceptedWellFormed : Type 0
 AcceptedWellFormed = (source : List ℕ) (p : Program) (n : ℕ) → parseProgram source ≡ got p n → WellFormed p

@@ -1,4 +1,4 @@
--- Iteration of the step: runs by the steps that they make, and one iteration after the other. Assumes nothing.
+-- Iteration of the step: runs by the steps that they make, and one iteration after the other.
 use Prim.Native.Nat.{ℕ, zero, suc, _+_, _-_, _≤_}
 use mathlib.Core.Path.{_≡_, refl, ap, sym, subst, _∙_}
 use mathlib.Core.Logic.{_⊎_, inl, inr}
@@ -23,7 +23,7 @@ use Rattle.machine.specs.Step.{Step, made, failed, memoryStep, perform, stepDef
 use Rattle.machine.specs.Run.{Ran, ran, more, goOn, runFrom}
 use Rattle.machine.proofs.Turns.{run-halted, run-failed}
 use Rattle.runs.specs.Steps.{Steps, none, one}
-use Rattle.runs.specs.Ends.{Says, Ended}
+use Rattle.runs.specs.Outcomes.{Says, Ended}
 
 -- steps one after the other, taken apart and put together
 pub steps-join : {n m : ℕ} {s t u : State} → Steps n s t → Steps m t u → Steps (n + m) s u

@@ -1,4 +1,4 @@
--- Every step and every run keeps the image's size and P below 16,384. Assumes nothing.
+-- Every step and every run keeps the image's size and P below 16,384.
 use Prim.Native.Nat.{ℕ}
 use mathlib.Core.Path.{_≡_, subst, sym}
 use mathlib.Core.Bool.{false}

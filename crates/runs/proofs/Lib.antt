@@ -2,4 +2,4 @@ pub mod Iteration
 pub mod Refusals
 pub mod Keeping
 pub mod Lists
-pub mod Laws
+pub mod RunLaws

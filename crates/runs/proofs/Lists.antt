@@ -1,4 +1,4 @@
--- A list of runs as one iteration of the step, and what follows where the steps are known. Assumes nothing.
+-- A list of runs as one iteration of the step, and what follows where the steps are known.
 use Prim.Native.Nat.{ℕ, zero, suc, _+_, _-_, _%_, _^_, _≤_, _<_}
 use mathlib.Core.Path.{_≡_, refl, ap, sym, subst, _∙_}
 use mathlib.Core.Bool.{true, false, cond}

@@ -1,4 +1,4 @@
--- A run is refused on one of three causes, or is the iteration of the step up to its budget. Assumes nothing.
+-- A run is refused on one of three causes, or is the iteration of the step up to its budget.
 use Prim.Native.Nat.{ℕ, _≤_, _<_}
 use mathlib.Core.Path.{_≡_, refl, ap, subst, _∙_}
 use mathlib.Core.Logic.{_⊎_, inl, inr}
@@ -13,7 +13,7 @@ use Rattle.machine.specs.declared.Outcome.the-variants.{Halted, Spent, Failed}
 use Rattle.machine.specs.Failure.{wrongImage, unknownWord, longChain, overBudget, wrongP, refused}
 use Rattle.machine.specs.State.{State, Good}
 use Rattle.machine.specs.Run.{Ran, ran, runFrom, runDef}
-use Rattle.runs.specs.Ends.{Says, Refusal, of-image, of-p, of-budget, RefusedExactly}
+use Rattle.runs.specs.Outcomes.{Says, Refusal, of-image, of-p, of-budget, RefusedExactly}
 use Rattle.runs.proofs.Iteration.{run-ends}
 
 pub data Decision (q : Request) (s : State) : Type 0 where

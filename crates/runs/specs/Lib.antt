@@ -1,4 +1,4 @@
 pub mod Steps
-pub mod Ends
+pub mod Outcomes
 pub mod Runs
 pub mod RunLaws

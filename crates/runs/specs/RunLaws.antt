@@ -1,4 +1,4 @@
--- The laws of runs, and of lists of them, over the definitions that the machine's function is proved to equal. Assumes nothing.
+-- The laws of runs, and of lists of them, over the definitions that the machine's function is proved to equal.
 use Prim.Native.Nat.{ℕ, suc, _+_, _%_, _^_, _≤_, _<_}
 use mathlib.Core.Path.{_≡_}
 use mathlib.Core.Bool.{true, false}
@@ -11,7 +11,7 @@ use Rattle.machine.specs.State.{State, Good}
 use Rattle.machine.specs.Step.{made, stepDef}
 use Rattle.machine.specs.Run.{ran, runFrom, runDef}
 use Rattle.runs.specs.Steps.{Steps}
-use Rattle.runs.specs.Ends.{Ended, RefusedExactly}
+use Rattle.runs.specs.Outcomes.{Ended, RefusedExactly}
 use Rattle.runs.specs.Runs.{runsDef, clockAfter}
 
 -- q, but for its budget

@@ -1,4 +1,4 @@
--- A list of runs, "each going on from what the last one left". Assumes nothing.
+-- A list of runs, "each going on from what the last one left".
 use Prim.Native.Nat.{ℕ, _+_}
 use mathlib.Core.Bool.{cond}
 use mathlib.Core.List.{List, [], _∷_}

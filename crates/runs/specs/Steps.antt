@@ -1,4 +1,4 @@
--- Steps made one after the other. Assumes nothing.
+-- Steps made one after the other.
 use Prim.Native.Nat.{ℕ, suc}
 use mathlib.Core.Path.{_≡_}
 use mathlib.Core.Bool.{false}

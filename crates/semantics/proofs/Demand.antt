@@ -1,7 +1,5 @@
--- Demand 3, from the three parts. Assumes nothing.
-pub mod Programs
+-- Demand 3, from acceptance, the memory map and the simulation.
 pub mod Theorem
 pub mod Loading
-pub mod Recipes
-pub mod Passes
-pub mod Laws
+pub mod Samples
+pub mod ForTurns

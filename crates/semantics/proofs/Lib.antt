@@ -1,4 +1,2 @@
-pub mod MemoryMap
-pub mod Acceptance
 pub mod Simulation
 pub mod Demand

@@ -1,7 +1,7 @@
--- The machine follows the meaning of a program that is laid. Assumes nothing.
+-- The machine follows the meaning of a program that is laid.
 pub mod Cells
 pub mod Relate
-pub mod Orders
+pub mod Instructions
 pub mod Classes
 pub mod Control
 pub mod Parts

@@ -1,14 +1,14 @@
--- The acts of the semantics, each one step, by the machine's own effects: "Loads, unary words, operators, shifts, tests and stores act .. in the laid words' order, each as its order does". Assumes nothing.
+-- The acts of the semantics, each one step, by the machine's own effects: "Loads, unary words, operators, shifts, tests and stores act .. in the laid words' order, each as its order does".
 use Prim.Native.Nat.{ℕ, suc, _+_, _-_, _%_}
 use mathlib.Core.Bool.{Bool, true, false, cond}
 use mathlib.Core.List.{List, [], _∷_}
-use lib.Dec.{eqb, leb, ltb}
+use lib.Dec.{eqb}
 use Rattle.effect.specs.declared.Registers.{Registers}
 use Rattle.effect.specs.Effects.{operateOf, unaryOf, shiftedOf}
 use Rattle.effect.specs.Skips.{skipsOf}
 use Rattle.instruction.specs.Slot.{SPL, TCA}
-use Rattle.syntax.specs.Tree.{Id, Array, Operand, Subscript, Cell, CellId, sameCell}
-use Rattle.syntax.specs.Emission.{Plain}
+use Rattle.tree.specs.Tree.{Id, Array, Operand, Subscript, Cell, CellId, sameCell, isInside}
+use Rattle.layout.specs.Words.{Plain}
 use Rattle.semantics.specs.Trace.{State, Trace, bind}
 
 -- a step made: what every instruction does besides its own effect
@@ -55,10 +55,6 @@ unfoldable pub subscripted : Subscript → State → State
 subscripted (Subscript.by o) σ = loadX (valueOf (placeOf o) σ) σ
 subscripted Subscript.hash σ = σ
 
--- "subscripts -size to -1"
-unfoldable pub isInside : Array → ℕ → Bool
-isInside a v = cond (leb (65536 - a .size) v) (ltb v 65536) false
-
 -- "A subscript outside its array breaks the meaning off where its LDX stands, or for `#` would stand, X loaded"
 unfoldable pub element : Array → State → Trace CellId
 element a σ = cond (isInside a (σ .cells xCell)) (Trace.done (CellId.element (a .number) (σ .cells xCell)) σ) (Trace.broke σ)
@@ -77,7 +73,7 @@ reach (Cell.item a s) σ = bind (entered a s σ) asPlace
 -- ---- What is done with them
 
 unfoldable pub operate : ℕ → Place → State → Trace (Unit {0})
-operate code p σ = Trace.done tt (withRegisters σ (operateOf code (valueOf p σ) (σ .registers)))
+operate opcode p σ = Trace.done tt (withRegisters σ (operateOf opcode (valueOf p σ) (σ .registers)))
 
 unfoldable pub storeA : CellId → State → Trace (Unit {0})
 storeA i σ = Trace.done tt (store i (σ .registers .a) σ)

@@ -1,4 +1,4 @@
--- Demand 3: what every list of runs of a loaded machine shows of the meaning. Assumes nothing.
+-- Demand 3: what every list of runs of a loaded machine shows of the meaning.
 use Prim.Native.Nat.{ℕ, suc, _≤_, _<_}
 use mathlib.Core.Path.{_≡_}
 use mathlib.Core.Bool.{true, false}
@@ -7,21 +7,22 @@ use lib.ListN.{length, getD}
 use Rattle.machine.specs.declared.Machine.{Machine}
 use Rattle.machine.specs.State as machine
 use Rattle.runs.specs.Runs.{Total, Comes}
-use Rattle.syntax.specs.Tree.{CellId, Program}
-use Rattle.emission.specs.Map.{Word, mapOf}
-use Rattle.emission.specs.Compile.{Compiled, Result, compileDef}
+use Rattle.tree.specs.Tree.{CellId, Program}
+use Rattle.layout.specs.Map.{Role, mapAt, Home}
+use Rattle.compilation.specs.Compile.{Compiled, Result, compileDef}
 use Rattle.semantics.specs.Trace.{State, Trace}
 use Rattle.semantics.specs.Meaning.{meaning}
-use Rattle.semantics.specs.Variables.{variablesOf, constantsOf}
+use Rattle.tree.specs.Variables.{variablesOf, constantsOf}
+use Rattle.layout.specs.Addresses.{memoryWords}
 
 -- ---- A loaded machine
 
 -- a word of memory, by what the map says that it is for: variables and constants have the start's values, every other word is the image's
-abbrev pub Holds : State → Word → ℕ → ℕ → Type 0
-Holds σ (Word.fixed w) imageWord word = word ≡ imageWord
-Holds σ (Word.cell i v) imageWord word = word ≡ σ .cells i
-Holds σ (Word.link p) imageWord word = word ≡ imageWord
-Holds σ Word.free imageWord word = word ≡ imageWord
+abbrev pub Holds : State → Role → ℕ → ℕ → Type 0
+Holds σ (Role.fixed w) imageWord word = word ≡ imageWord
+Holds σ (Role.cell i v) imageWord word = word ≡ σ .cells i
+Holds σ (Role.link p) imageWord word = word ≡ imageWord
+Holds σ Role.free imageWord word = word ≡ imageWord
 
 -- what the meaning starts from: any values but those of the named constants, and nothing done yet
 pub record Start (p : Program) (σ : State) : Type 0 where
@@ -31,8 +32,8 @@ pub record Start (p : Program) (σ : State) : Type 0 where
 -- "its image loaded, its integers and array cells, A, B, C, X and keys given any values, and the machine set at the entry"
 pub record Loaded (c : Compiled) (σ : State) (s : machine.State) : Type 0 where
   pub start : Start (c .program) σ
-  pub size : length (s .image) ≡ 16384
-  pub image : (k : ℕ) → k < 16384 → Holds σ (getD (mapOf (c .program)) k Word.free) (getD (c .image) k 0) (getD (s .image) k 0)
+  pub size : length (s .image) ≡ memoryWords
+  pub image : (k : ℕ) → k < memoryWords → Holds σ (mapAt (c .program) k) (getD (c .image) k 0) (getD (s .image) k 0)
   pub registers : s .machine .registers ≡ σ .registers
   pub switches : s .machine .switches ≡ σ .switches
   pub entry : s .machine .p ≡ c .entry
@@ -41,15 +42,7 @@ pub record Loaded (c : Compiled) (σ : State) (s : machine.State) : Type 0 where
 -- "the variables, A, B, C and X are those that the meaning has"
 pub record Shows (p : Program) (σ : State) (s : machine.State) : Type 0 where
   pub registers : s .machine .registers ≡ σ .registers
-  pub cells : (k : ℕ) (i : CellId) (v : ℕ) → k < 16384 → getD (mapOf p) k Word.free ≡ Word.cell i v → getD (s .image) k 0 ≡ σ .cells i
-
--- the one word where a cell stands
-pub record Home (p : Program) (i : CellId) : Type 0 where
-  pub at : ℕ
-  pub value : ℕ
-  pub below : at < 16384
-  pub here : getD (mapOf p) at Word.free ≡ Word.cell i value
-  pub only : (k v : ℕ) → k < 16384 → getD (mapOf p) k Word.free ≡ Word.cell i v → k ≡ at
+  pub cells : (k : ℕ) (i : CellId) (v : ℕ) → k < memoryWords → mapAt p k ≡ Role.cell i v → getD (s .image) k 0 ≡ σ .cells i
 
 -- ---- Traces
 
@@ -138,12 +131,12 @@ Demand3 = (source : List ℕ) (c : Compiled) → compileDef source ≡ Result.ac
 -- a word of memory before the start: the image's, or anything where a variable stands
 pub data Fills (c : Compiled) (k word : ℕ) : Type 0 where
   laid : word ≡ getD (c .image) k 0 → Fills c k word
-  given : (i : CellId) (v : ℕ) → List·Memᴰ i (variablesOf (c .program)) → getD (mapOf (c .program)) k Word.free ≡ Word.cell i v → Fills c k word
+  given : (i : CellId) (v : ℕ) → List·Memᴰ i (variablesOf (c .program)) → mapAt (c .program) k ≡ Role.cell i v → Fills c k word
 
 pub record Loads (c : Compiled) : Type 0 where
-  pub whole : length (c .image) ≡ 16384
+  pub whole : length (c .image) ≡ memoryWords
   -- a machine set at the entry, whose memory is the image but for any values of the variables, is loaded with some start; by `whole` the image itself is such a memory
-  pub filled : (m : Machine) (memory : List ℕ) → length memory ≡ 16384 → ((k : ℕ) → k < 16384 → Fills c k (getD memory k 0)) → m .p ≡ c .entry → m .halted ≡ false
+  pub filled : (m : Machine) (memory : List ℕ) → length memory ≡ memoryWords → ((k : ℕ) → k < memoryWords → Fills c k (getD memory k 0)) → m .p ≡ c .entry → m .halted ≡ false
       → (σ : State) × Loaded c σ (machine.state m memory)
   -- and every start has a machine that is loaded with it
   pub started : (σ : State) → Start (c .program) σ → (s : machine.State) × Loaded c σ s

@@ -1,4 +1,4 @@
--- Worked examples of the meaning, decided by computation: the numbers of steps of the observations, how the trace ends, and what A and X are then. Assumes nothing.
+-- Worked examples of the meaning, decided by computation: the numbers of steps of the observations, how the trace ends, and what A and X are then.
 use Prim.Native.Nat.{ℕ}
 use Prim.Native.String.{String}
 use mathlib.Core.Path.{_≡_, refl}
@@ -9,18 +9,18 @@ use Rattle.word.specs.Shift.{shiftOf, signChanges}
 use Rattle.effect.specs.Effects.{operateOf, unaryOf}
 use Rattle.effect.specs.Skips.{skipsOf}
 use Rattle.source.specs.Bytes.{bytes}
-use Rattle.syntax.specs.Tree.{Id, CellId, Program, sameId, sameCell}
-use Rattle.syntax.specs.Parse.{Got}
-use Rattle.syntax.specs.Program.{parseProgram}
-use Rattle.syntax.specs.Computed as syntax
+use Rattle.tree.specs.Tree.{Id, CellId, Program, sameId, sameCell, isInside}
+use Rattle.grammar.specs.Parse.{Got}
+use Rattle.grammar.specs.Program.{parseProgram}
+use Rattle.grammar.specs.Computed as grammar
 use Rattle.semantics.specs.Trace.{State, Trace, bind, next, ended}
-use Rattle.semantics.specs.Acts.{updated, placeOf, valueOf, subscripted, isInside, element, entered, asPlace, reach, operate, storeA, setX, absolute, test, jump, counted}
-use Rattle.semantics.specs.Variables.{itemVariables, itemConstants, wordsOf, localsBy, elementsOf, declaredBy, variablesOf, constantsOf}
-use Rattle.semantics.specs.Meaning.{unaryOn, unariesOn, operationOn, operationsOn, called, chosen, orderOf, holds, wordsAfter, ticks, related, whileTurns, forTurns, assigned, stmtsBy, termBy, condBy, exprBy, exprAt, bodyBy, stmtAt, globalsOf, withDeclaration, proceduresFrom, proceduresOf, meaning}
+use Rattle.semantics.specs.Acts.{updated, placeOf, valueOf, subscripted, element, entered, asPlace, reach, operate, storeA, setX, absolute, test, jump, counted}
+use Rattle.semantics.specs.Meaning.{unaryOn, unariesOn, operationOn, operationsOn, called, chosen, orderOf, holds, wordsAfter, ticks, related, whileTurns, forTurns, assigned, stmtsBy, termBy, condBy, exprBy, exprAt, bodyBy, stmtAt, withDeclaration, proceduresFrom, proceduresOf, meaning}
+use Rattle.tree.specs.Symbols.{globalsOf, wordsTaken}
 
 -- every definition that a meaning rests on, listed once
 unfoldable pub computed : ℕ → Program → State → Trace (Unit {0})
-unfolding syntax.computed compareOf sumOf differenceOf shiftOf signChanges operateOf unaryOf skipsOf sameId sameCell bind next ended updated placeOf valueOf subscripted isInside element entered asPlace reach operate storeA setX absolute test jump counted unaryOn unariesOn operationOn operationsOn called chosen orderOf holds wordsAfter ticks related whileTurns forTurns assigned stmtsBy termBy condBy exprBy exprAt bodyBy stmtAt globalsOf withDeclaration proceduresFrom proceduresOf meaning
+unfolding grammar.computed compareOf sumOf differenceOf shiftOf signChanges operateOf unaryOf skipsOf sameId sameCell bind next ended updated placeOf valueOf subscripted isInside element entered asPlace reach operate storeA setX absolute test jump counted unaryOn unariesOn operationOn operationsOn called chosen orderOf holds wordsAfter ticks related whileTurns forTurns assigned stmtsBy termBy condBy exprBy exprAt bodyBy stmtAt globalsOf withDeclaration proceduresFrom proceduresOf meaning wordsTaken
 computed f p σ = meaning f p σ
 
 pub data Ending : Type 0 where
@@ -104,17 +104,3 @@ rows =
 examples : map (λ row. shown (parseProgram (bytes (row .0)))) rows ≡ map {B = List ℕ × Ending} (λ row. (row .1, row .2)) rows
 unfolding computed
 examples = refl
-
--- the cells that are declared: X, an integer, an array's elements from the lowest, a procedure's local; a constant is no variable
-abbrev cellsOf : Got Program → List CellId × List (CellId × ℕ)
-cellsOf (Got.got p next) = (variablesOf p, constantsOf p)
-cellsOf (Got.failed n at) = ([], [])
-
-variables :
-    cellsOf (parseProgram (bytes ".BEGIN .INTEGER I; .CONSTANT K=3; .COMPCONSTANT C=4; .ARRAY T[2]; .PROCEDURE P; .BEGIN .CONSTANT M=5; .INTEGER L; .END; .INTEGER J; .END"))
-    ≡ (
-      CellId.named Id.x ∷ CellId.named (Id.global 0) ∷ CellId.element 2 65534 ∷ CellId.element 2 65535 ∷ CellId.named (Id.local 3 1) ∷ CellId.named (Id.global 4) ∷ [],
-      (CellId.named (Id.global 1), 3) ∷ (CellId.named (Id.local 3 0), 5) ∷ [],
-    )
-unfolding computed variablesOf constantsOf declaredBy localsBy wordsOf itemVariables itemConstants elementsOf
-variables = refl

@@ -1,9 +1,5 @@
 pub mod Trace
 pub mod Acts
 pub mod Meaning
-pub mod Variables
 pub mod Agreement
 pub mod Examples
-pub mod Laid
-pub mod Known
-pub mod EmissionLaws

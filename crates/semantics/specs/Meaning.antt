@@ -1,17 +1,18 @@
 -- The semantics (document 01's "Meaning"): it is fed a program and start values and knows no addresses. Each form is one definition, with the meanings of its parts as parameters;
--- expression, condition and statement call each other with the nesting left falling, as parsing does. Assumes nothing.
+-- expression, condition and statement call each other with the nesting left falling, as parsing does.
 use Prim.Native.Nat.{ℕ, zero, suc, _+_}
 use mathlib.Core.Bool.{Bool, true, false, cond}
 use mathlib.Core.List.{List, [], _∷_}
 use lib.Dec.{eqb}
-use Rattle.source.specs.Bytes.{given}
+use Rattle.prelude.specs.Choice.{given}
 use Rattle.word.specs.Arithmetic.{compareOf}
-use Rattle.instruction.specs.Code.{LDA}
+use Rattle.instruction.specs.Opcode.{LDA}
 use Rattle.instruction.specs.Slot.{CRA}
-use Rattle.syntax.specs.Tree.{CellId, Unary, Operation, Relation, Expr, Term, Cond, Target, Stmt, Stmts, Item, Declaration, Program}
-use Rattle.syntax.specs.Emission.{unaryPlain, operatorCode, shiftPlain, testSlot, bareSlot}
+use Rattle.tree.specs.Tree.{CellId, Unary, Operation, Relation, Expr, Term, Cond, Target, Stmt, Stmts, Declaration, Program}
+use Rattle.layout.specs.Words.{unaryPlain, operatorOpcode, shiftPlain, testSlot, bareSlot}
 use Rattle.semantics.specs.Trace.{State, Trace, bind, next, ended}
 use Rattle.semantics.specs.Acts.{Place, valueOf, tick, xCell, entered, reach, operate, storeA, setX, generic, absolute, plainOn, test, jump, counted}
+use Rattle.tree.specs.Symbols.{globalsOf}
 
 -- ---- Expressions
 
@@ -24,7 +25,7 @@ unariesOn [] σ = σ
 unariesOn (u ∷ us) σ = unaryOn u (unariesOn us σ)
 
 unfoldable pub operationOn : Operation → State → Trace (Unit {0})
-operationOn (Operation.binary o c) σ = bind (reach c σ) (operate (operatorCode o))
+operationOn (Operation.binary o c) σ = bind (reach c σ) (operate (operatorOpcode o))
 operationOn (Operation.shift s n) σ = Trace.done tt (plainOn (shiftPlain s n ∷ []) σ)
 
 -- "left to right"
@@ -46,8 +47,8 @@ chosen f g true σ = f σ
 chosen f g false σ = g σ
 
 -- a part with no level of nesting left, or a procedure that is not declared: no source that is accepted has one, but for empty statements
-abbrev pub notThere : {A : Type 0} → A → State → Trace (Unit {0})
-notThere part σ = Trace.out σ
+abbrev pub unreachable : {A : Type 0} → A → State → Trace (Unit {0})
+unreachable part σ = Trace.out σ
 
 -- ---- Conditions
 
@@ -154,7 +155,7 @@ module _ (procedures : Procedures) where
 
   -- with `left` levels of nesting left, its own among them
   unfoldable pub exprAt : ℕ → Expr → State → Trace (Unit {0})
-  exprAt zero e σ = notThere e σ
+  exprAt zero e σ = unreachable e σ
   exprAt (suc left) e σ = exprBy (exprAt left) e σ
 
   -- ---- Statements
@@ -177,19 +178,10 @@ module _ (procedures : Procedures) where
 
     -- "inner before outer": a statement's end comes after those of the statements in it
     unfoldable pub stmtAt : ℕ → Stmt → State → Trace (Unit {0})
-    stmtAt zero s σ = bind (bodyBy notThere notThere notThere s σ) ended
+    stmtAt zero s σ = bind (bodyBy unreachable unreachable unreachable s σ) ended
     stmtAt (suc left) s σ = bind (bodyBy (exprAt (suc left)) (stmtAt left) (stmtsBy (stmtAt left)) s σ) ended
 
 -- ---- Procedures and a program
-
--- how many words of sector 0 a declaration takes: procedures and arrays are numbered by them
-unfoldable pub globalsOf : Declaration → ℕ
-globalsOf (Declaration.item name Item.integer) = 1
-globalsOf (Declaration.item name (Item.constant v)) = 1
-globalsOf (Declaration.item name (Item.compconstant v)) = 0
-globalsOf (Declaration.array name size values) = 1
-globalsOf (Declaration.procedure name accumulator locals body) = 1
-globalsOf Declaration.nextSector = 0
 
 -- the levels 0 to 32, as parsing has them
 abbrev pub outermost : Procedures → ℕ → Stmts → State → Trace (Unit {0})
@@ -208,7 +200,7 @@ proceduresFrom fuel n procedures [] = procedures
 proceduresFrom fuel n procedures (d ∷ ds) = proceduresFrom fuel (n + globalsOf d) (withDeclaration fuel n procedures d) ds
 
 unfoldable pub proceduresOf : ℕ → List Declaration → Procedures
-proceduresOf fuel ds = proceduresFrom fuel 0 (λ p σ. notThere p σ) ds
+proceduresOf fuel ds = proceduresFrom fuel 0 (λ p σ. unreachable p σ) ds
 
 -- "Moments: the start .., then each statement's end", with fuel for the turns of each loop
 unfoldable pub meaning : ℕ → Program → State → Trace (Unit {0})

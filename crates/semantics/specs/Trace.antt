@@ -1,8 +1,8 @@
--- The state of the semantics (document 01: the meaning), and what a part of a program does from one. Assumes nothing.
+-- The state of the semantics (document 01: the meaning), and what a part of a program does from one.
 use Prim.Native.Nat.{ℕ}
 use Rattle.effect.specs.declared.Registers.{Registers}
 use Rattle.effect.specs.declared.Switches.{Switches}
-use Rattle.syntax.specs.Tree.{CellId}
+use Rattle.tree.specs.Tree.{CellId}
 
 -- "named cells (one for each integer, constant and array element declared), A, B, C, X (the integer X alike) and keys", and the number of steps done
 pub record State : Type 0 where

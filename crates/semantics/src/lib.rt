@@ -1,6 +1,5 @@
 // The semantics of the language, and demand 3 over the definitions. The functions carry the theorems as their contracts.
 ghost use Rattle.semantics.specs.Agreement.{Demand3, Loadable};
-ghost use Rattle.semantics.specs.EmissionLaws.{EmissionLaws};
 
 pub fn demand_three()
     ensures { λ r. ⌜ Demand3 ⌝ }
@@ -9,9 +8,4 @@ pub fn demand_three()
 // The theorem is about something: every memory that has the image's words but where variables stand is loaded with a start, and every start has such a memory.
 pub fn start_exists()
     ensures { λ r. ⌜ Loadable ⌝ }
-{}
-
-// What holds of every accepted program's pools, map and image.
-pub fn emission_laws()
-    ensures { λ r. ⌜ EmissionLaws ⌝ }
 {}

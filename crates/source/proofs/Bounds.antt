@@ -6,12 +6,13 @@ use mathlib.Core.List.{List, [], _∷_}
 use native.Mathlib.Omega.{arith}
 use lib.Dec.{leb, eqb}
 use lib.ListN.{length, take, drop, length-drop}
-use Rattle.source.specs.Bytes.{whether, bytes, isLetter, isDigit, isOctalDigit, isLetterOrDigit, isBlank, span, sameBytes}
+use Rattle.prelude.specs.Choice.{whether}
+use Rattle.source.specs.Bytes.{bytes, isLetter, isDigit, isOctalDigit, isLetterOrDigit, isBlank, span, sameBytes}
 use Rattle.source.specs.Kinds
-use Rattle.source.specs.PointWords.{wordLength}
+use Rattle.source.specs.Keywords.{keywordLength}
 use Rattle.source.specs.declared.Token.{Token}
-use Rattle.source.specs.Tokens.{token, number, constantToken, decimalToken, negativeToken, octalToken, wordToken, tokenOf, operatorOf, afterBlanks, tokenAt, operatorAt}
-use Rattle.source.proofs.Runs.{most, within}
+use Rattle.source.specs.Tokens.{token, number, constantToken, decimalToken, negativeToken, octalToken, keywordToken, tokenOf, operatorOf, afterBlanks, tokenAt, operatorAt}
+use Rattle.source.proofs.SpanLaws.{most, within}
 use Rattle.source.proofs.Signs.{Wide, sign-wide}
 
 pub record Lies (s : List ℕ) (at : ℕ) (t : Token) : Type 0 where
@@ -49,9 +50,9 @@ take-fewer zero l = omega arith
 take-fewer (suc n) [] = omega arith
 take-fewer (suc n) (x ∷ l) = omega (arith, take-fewer n l)
 
-word-most : (bs : List ℕ) → wordLength bs ≤ length bs
-unfolding wordLength
-word-most bs = go (sameBytes (take (span isLetter bs) bs) (bytes "SENSE"))
+keyword-most : (bs : List ℕ) → keywordLength bs ≤ length bs
+unfolding keywordLength
+keyword-most bs = go (sameBytes (take (span isLetter bs) bs) (bytes "SENSE"))
   where
     go : (t : Bool) → whether t (λ _. span isLetter bs + span isDigit (take 1 (drop (span isLetter bs) bs))) (λ _. span isLetter bs) ≤ length bs
     go true =
@@ -64,11 +65,11 @@ digits-some p b bs e = rw e (omega arith)
 
 -- the token of bytes of which there is one
 of-wide : (b : ℕ) (bs : List ℕ) (at : ℕ) → Wide at (suc (length bs)) (tokenOf (b ∷ bs) at)
-unfolding tokenOf decimalToken negativeToken octalToken wordToken
+unfolding tokenOf decimalToken negativeToken octalToken keywordToken
 of-wide b bs at = letter (isLetter b) refl
   where
     point : isLetter b ≡ false → isDigit b ≡ false → eqb b 45 ≡ false → eqb b 39 ≡ false → (t : Bool) → eqb b 46 ≡ t → Wide at (suc (length bs)) (tokenOf (b ∷ bs) at)
-    point l d m q true e = rw (l, d, m, q, e) (wide _ _ at _ _ (omega arith) (omega (arith, word-most bs)))
+    point l d m q true e = rw (l, d, m, q, e) (wide _ _ at _ _ (omega arith) (omega (arith, keyword-most bs)))
     point l d m q false e = rw (l, d, m, q, e) (sign-wide b bs at)
 
     quote : isLetter b ≡ false → isDigit b ≡ false → eqb b 45 ≡ false → (t : Bool) → eqb b 39 ≡ t → Wide at (suc (length bs)) (tokenOf (b ∷ bs) at)

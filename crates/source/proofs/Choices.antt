@@ -12,7 +12,7 @@ use lib.Seq.{drop-cons, drop-drop}
 use Rattle.source.specs.Bytes.{isLetter, isDigit, isLetterOrDigit, isBlank, span}
 use Rattle.source.specs.Kinds
 use Rattle.source.specs.declared.Token.{Token}
-use Rattle.source.specs.Tokens.{decimalToken, negativeToken, octalToken, wordToken, signToken, tokenOf, operatorOf, afterBlanks}
+use Rattle.source.specs.Tokens.{decimalToken, negativeToken, octalToken, keywordToken, signToken, tokenOf, operatorOf, afterBlanks}
 
 module _ (s : List ℕ) (at : ℕ) (h : length s ≤ at) where
   pub ended : record { kind = Kinds.endOfSource; value = 0; at = at; next = at } ≡ tokenOf (drop at s) at
@@ -47,9 +47,9 @@ module _ (s : List ℕ) (at : ℕ) (h : at < length s) where
   unfolding tokenOf
   octal e = rw (first, e)
 
-  pub word : getD s at 0 ≡ 46 → wordToken (drop (at + 1) s) at ≡ tokenOf (drop at s) at
+  pub keyword : getD s at 0 ≡ 46 → keywordToken (drop (at + 1) s) at ≡ tokenOf (drop at s) at
   unfolding tokenOf
-  word e = rw (first, e)
+  keyword e = rw (first, e)
 
   pub sign :
       isLetter (getD s at 0) ≡ false → isDigit (getD s at 0) ≡ false

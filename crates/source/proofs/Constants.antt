@@ -30,13 +30,13 @@ same n m limit v w at width small e f = go (leb n limit) refl
     go false q = let l = leb-false n limit q in rw (q, lt-leb m limit (omega arith))
 
 module _ (s : List ℕ) (m : ℕ) where
-  -- the constant of a run of digits, whose word goes by its number
-  run :
+  -- the constant of a span of digits, whose word goes by its number
+  of-span :
       (p : ℕ → Bool) (base limit : ℕ) (f : ℕ → ℕ) (at from next width : ℕ) → limit < 65536
       → next ≡ from + span p (drop from s) → m ≡ min (number base 0 (slice from next s)) 65536 → next - at ≡ width
       → constantToken m limit (f m) at (next - at)
       ≡ constantToken (number base 0 (take (span p (drop from s)) (drop from s))) limit (f (number base 0 (take (span p (drop from s)) (drop from s)))) at width
-  run p base limit f at from next width small e q w =
+  of-span p base limit f at from next width small e q w =
       let r : m ≡ min (number base 0 (take (span p (drop from s)) (drop from s))) 65536 = rw (← part s from (span p (drop from s)), ← e) q in
       rw w (same _ m limit _ _ at width small r (λ l. ap f (omega arith)))
 
@@ -44,7 +44,7 @@ module _ (s : List ℕ) (m : ℕ) where
       (at next : ℕ) → next ≡ at + span isDigit (drop at s) → m ≡ min (number 10 0 (slice at next s)) 65536
       → constantToken m 32767 m at (next - at) ≡ decimalToken (drop at s) at
   unfolding decimalToken
-  decimal at next e q = run isDigit 10 32767 (λ n. n) at at next _ (omega arith) e q (omega arith)
+  decimal at next e q = of-span isDigit 10 32767 (λ n. n) at at next _ (omega arith) e q (omega arith)
 
   pub negative :
       (at next : ℕ) → next ≡ at + 1 + span isDigit (drop (at + 1) s) → (next ≡ at + 1 → ⊥) → m ≡ min (number 10 0 (slice (at + 1) next s)) 65536
@@ -52,7 +52,7 @@ module _ (s : List ℕ) (m : ℕ) where
   unfolding negativeToken
   negative at next e some q =
       rw (ne-eqb (span isDigit (drop (at + 1) s)) 0 (λ z. some (omega arith)))
-      (run isDigit 10 32768 (λ n. (65536 - n) % 65536) at (at + 1) next _ (omega arith) e q (omega arith))
+      (of-span isDigit 10 32768 (λ n. (65536 - n) % 65536) at (at + 1) next _ (omega arith) e q (omega arith))
 
   pub octal :
       (at next : ℕ) → next ≡ at + 1 + span isOctalDigit (drop (at + 1) s) → (next ≡ at + 1 → ⊥) → m ≡ min (number 8 0 (slice (at + 1) next s)) 65536
@@ -60,7 +60,7 @@ module _ (s : List ℕ) (m : ℕ) where
   unfolding octalToken
   octal at next e some q =
       rw (ne-eqb (span isOctalDigit (drop (at + 1) s)) 0 (λ z. some (omega arith)))
-      (run isOctalDigit 8 65535 (λ n. n) at (at + 1) next _ (omega arith) e q (omega arith))
+      (of-span isOctalDigit 8 65535 (λ n. n) at (at + 1) next _ (omega arith) e q (omega arith))
 
 module _ (s : List ℕ) (at next : ℕ) (none : next ≡ at + 1) where
   pub minus-alone : next ≡ at + 1 + span isDigit (drop (at + 1) s) → record { kind = Kinds.minus; value = 0; at = at; next = next } ≡ negativeToken (drop (at + 1) s) at

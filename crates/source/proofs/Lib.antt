@@ -1,11 +1,11 @@
--- Laws of runs, numbers, constants, signs, words and names; Bounds is for parsing.
+-- Laws of spans, numbers, constants, signs, keywords and names; Bounds is for parsing.
 pub mod Tests
-pub mod Runs
+pub mod SpanLaws
 pub mod Numbers
 pub mod Constants
 pub mod Signs
 pub mod Same
-pub mod Words
+pub mod KeywordLaws
 pub mod Choices
 pub mod Bounds
 pub mod Names

@@ -8,7 +8,8 @@ use borrow.Author.Tests.{eqb-true, eq-eqb, ne-eqb}
 use lib.Dec.{T, eqb}
 use lib.ListN.{length, getD, drop, drop-of-length-le}
 use lib.Seq.{drop-cons}
-use Rattle.source.specs.Bytes.{whether, sameBytes}
+use Rattle.prelude.specs.Choice.{whether}
+use Rattle.source.specs.Bytes.{sameBytes}
 use Rattle.source.specs.Kinds
 
 pub lengths : (a b : List ℕ) → (length a ≡ length b → ⊥) → sameBytes a b ≡ false

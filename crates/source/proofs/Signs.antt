@@ -9,7 +9,8 @@ use borrow.Author.Tests.{ne-eqb}
 use lib.Dec.{eqb, T}
 use lib.ListN.{length, getD, drop, length-drop}
 use lib.Seq.{drop-cons, getD-drop}
-use Rattle.source.specs.Bytes.{whether, given, startsWith, find}
+use Rattle.prelude.specs.Choice.{whether, given, find}
+use Rattle.source.specs.Bytes.{startsWith}
 use Rattle.source.specs.Kinds
 use Rattle.source.specs.declared.Token.{Token}
 use Rattle.source.specs.Tokens.{token, signs, signToken}

@@ -3,10 +3,11 @@ use mathlib.Core.Path.{_≡_, refl}
 use Prim.Native.Nat.{ℕ, zero, suc}
 use mathlib.Core.List.{List, [], _∷_, _++_, map}
 use lib.Dec.{eqb}
-use Rattle.source.specs.Bytes.{whether, bytes, span, sameBytes, startsWith, find}
+use Rattle.prelude.specs.Choice.{whether, find}
+use Rattle.source.specs.Bytes.{bytes, span, sameBytes, startsWith}
 use Rattle.source.specs.Kinds
-use Rattle.source.specs.PointWords.{pointWords, wordLength, wordKind}
-use Rattle.source.specs.Tokens.{number, constantToken, decimalToken, negativeToken, octalToken, wordToken, signToken, tokenOf, afterBlanks, tokenAt, nameOf}
+use Rattle.source.specs.Keywords.{keywords, keywordLength, keywordKind}
+use Rattle.source.specs.Tokens.{number, constantToken, decimalToken, negativeToken, octalToken, keywordToken, signToken, tokenOf, afterBlanks, tokenAt, nameOf}
 
 -- so many numbers from one on
 abbrev from : ℕ → ℕ → List ℕ
@@ -17,13 +18,13 @@ from n (suc k) = n ∷ from (suc n) k
 kinds-differ :
     (Kinds.endOfSource ∷ Kinds.unknown ∷ Kinds.outOfRange ∷ Kinds.name ∷ Kinds.numeral ∷ Kinds.semicolon ∷ Kinds.comma ∷ Kinds.equal ∷ Kinds.notEqual ∷ Kinds.less ∷ Kinds.greater ∷ Kinds.atMost ∷
     Kinds.atLeast ∷ Kinds.plus ∷ Kinds.minus ∷ Kinds.leftParenthesis ∷ Kinds.rightParenthesis ∷ Kinds.leftBracket ∷ Kinds.rightBracket ∷ Kinds.quote ∷ Kinds.at ∷ Kinds.hash ∷ [])
-    ++ map (λ row. row .1) pointWords
+    ++ map (λ row. row .1) keywords
     ≡ from 0 74
 kinds-differ = refl
 
 -- the tokens of a source: kind, value and offset of each. Its line lists what an example unfolds
 tokensBy : ℕ → List ℕ → ℕ → List (ℕ × ℕ × ℕ)
-unfolding span sameBytes startsWith find wordLength wordKind number constantToken decimalToken negativeToken octalToken wordToken signToken tokenOf afterBlanks tokenAt
+unfolding span sameBytes startsWith find keywordLength keywordKind number constantToken decimalToken negativeToken octalToken keywordToken signToken tokenOf afterBlanks tokenAt
 tokensBy zero source at = []
 tokensBy (suc k) source at =
     let t = tokenAt source at in
@@ -45,14 +46,14 @@ every-sign :
 unfolding tokensBy
 every-sign = refl
 
--- every point-word, in the order of the kinds
-every-word :
+-- every keyword, in the order of the kinds
+every-keyword :
     map (λ t. t .0) (tokensBy 99 (bytes ".BEGIN .END .INTEGER .CONSTANT .COMPCONSTANT .ARRAY .NEXTSECTOR .PROCEDURE .ACCUMULATOR .IF .THEN .ELSE .WHEN .WHILE .DO .FOR"
     ++ (bytes " .ZERO .AND .NEV .ADDC .INC .NEG .SSP .SSM .CHS .CSA .NOT .ICLEFT .CLEFT .SWOP .ICRIGHT .CRIGHT .ABS"
     ++ bytes " .LGR .ARS .ARR .LGL .ALS .ALR .NONZERO .PLUS .MINUS .ODD .EVEN .CSET .NOTC .SENSE1 .SENSE2 .SENSE3 .SENSE4 .ANYKEY .NOKEY")) 0)
     ≡ from 22 52
 unfolding tokensBy
-every-word = refl
+every-keyword = refl
 
 -- bytes that are none: lower case, tab, carriage return, `*`, `/`, 0 and 255; a blank is no token
 bad-bytes : map (λ t. t .0) (tokensBy 99 (bytes "a \t\r*/" ++ (0 ∷ 255 ∷ 32 ∷ 10 ∷ [])) 0) ≡ map (λ _. Kinds.unknown) (from 0 7)

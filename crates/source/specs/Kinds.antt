@@ -1,5 +1,5 @@
 -- The kinds of token. They are numbers, and not constructors, because antt has no catch-all clause: each test would have to list them all.
--- The kind of a point-word is named by its letters.
+-- The kind of a keyword is named by its letters.
 use Prim.Native.Nat.{ℕ}
 
 -- the end of the source; bad bytes, which carry failure 4; a numeral out of range, which carries failure 5; a name; a constant in figures
@@ -70,7 +70,7 @@ at = 20
 abbrev pub hash : ℕ
 hash = 21
 
--- point-words of a program and of declarations
+-- keywords of a program and of declarations
 abbrev pub BEGIN : ℕ
 BEGIN = 22
 
@@ -130,7 +130,7 @@ AND = 39
 abbrev pub NEV : ℕ
 NEV = 40
 
--- unary words
+-- unary keywords
 abbrev pub ADDC : ℕ
 ADDC = 41
 
@@ -173,7 +173,7 @@ CRIGHT = 53
 abbrev pub ABS : ℕ
 ABS = 54
 
--- shift words
+-- shift keywords
 abbrev pub LGR : ℕ
 LGR = 55
 

@@ -1,7 +1,7 @@
 -- Bytes and tokens of the source.
 pub mod Bytes
 pub mod Kinds
-pub mod PointWords
+pub mod Keywords
 pub mod Classes
 pub mod Tokens
 pub mod Examples

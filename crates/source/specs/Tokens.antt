@@ -3,9 +3,10 @@ use Prim.Native.Nat.{ℕ, suc, _+_, _-_, _*_, _%_, min}
 use mathlib.Core.List.{List, [], _∷_}
 use lib.ListN.{length, take, drop}
 use lib.Dec.{leb, eqb}
-use Rattle.source.specs.Bytes.{whether, bytes, isLetter, isDigit, isOctalDigit, isLetterOrDigit, isBlank, span, startsWith, find, given}
+use Rattle.prelude.specs.Choice.{whether, find, given}
+use Rattle.source.specs.Bytes.{bytes, isLetter, isDigit, isOctalDigit, isLetterOrDigit, isBlank, span, startsWith}
 use Rattle.source.specs.Kinds
-use Rattle.source.specs.PointWords.{wordLength, wordKind}
+use Rattle.source.specs.Keywords.{keywordLength, keywordKind}
 -- the code's struct: its kind; the 16 bits of a constant in figures; the offsets of its first byte and after its last
 use Rattle.source.specs.declared.Token.{Token}
 
@@ -42,11 +43,11 @@ octalToken bs at =
     let n = number 8 0 (take width bs) in
     whether (eqb width 0) (λ _. token Kinds.quote 0 at 1) (λ _. constantToken n 65535 n at (suc width))
 
--- a point-word, from after the point
-unfoldable pub wordToken : List ℕ → ℕ → Token
-wordToken bs at =
-    let width = wordLength bs in
-    token (wordKind (take width bs)) 0 at (suc width)
+-- a keyword, from after the point
+unfoldable pub keywordToken : List ℕ → ℕ → Token
+keywordToken bs at =
+    let width = keywordLength bs in
+    token (keywordKind (take width bs)) 0 at (suc width)
 
 -- "`; , = < > + - ( ) [ ] ' @ # .`. Relations: `= <> < > <= >=`.": those of two bytes stand first, since the longest is taken; minus, quote and point are above
 abbrev pub signs : List (List ℕ × ℕ)
@@ -72,7 +73,7 @@ tokenOf (b ∷ bs) at =
     whether (isDigit b) (λ _. decimalToken (b ∷ bs) at) λ _.
     whether (eqb b 45) (λ _. negativeToken bs at) λ _.
     whether (eqb b 39) (λ _. octalToken bs at) λ _.
-    whether (eqb b 46) (λ _. wordToken bs at) λ _.
+    whether (eqb b 46) (λ _. keywordToken bs at) λ _.
     signToken (b ∷ bs) at
 
 -- the same where "a `-` after a whole term, cell or amount is the operator"

@@ -2,8 +2,8 @@
 use crate::Token;
 use crate::kind;
 use crate::number;
-use crate::run;
-use crate::run::Class;
+use crate::span;
+use crate::span::Class;
 ghost use mathlib.Core.Path.{_≡_};
 ghost use Prim.Native.Nat.{_+_, _-_, _≤_, _<_};
 ghost use lib.ListN.{length, drop};
@@ -35,7 +35,7 @@ pub fn decimal_at(source: &[u8], at: usize) -> Token
     requires { ⌜ at ≤ length (now source) ⌝ }
     ensures { λ r. ⌜ r ≡ decimalToken (drop at (now (source .entry))) at ⌝ }
 {
-    let next = run::run_end(source, at, Class::Digit);
+    let next = span::span_end(source, at, Class::Digit);
     let n = number::number_of(source, at, next, 10);
     constant(n, 32767, n, at, next)
 }
@@ -46,7 +46,7 @@ pub fn negative_at(source: &[u8], at: usize) -> Token
     ensures { λ r. ⌜ r ≡ negativeToken (drop (at + 1) (now (source .entry))) at ⌝ }
 {
     let from = at + 1;
-    let next = run::run_end(source, from, Class::Digit);
+    let next = span::span_end(source, from, Class::Digit);
     if next == from {
         return Token {
             kind: kind::MINUS_SIGN,
@@ -65,7 +65,7 @@ pub fn octal_at(source: &[u8], at: usize) -> Token
     ensures { λ r. ⌜ r ≡ octalToken (drop (at + 1) (now (source .entry))) at ⌝ }
 {
     let from = at + 1;
-    let next = run::run_end(source, from, Class::OctalDigit);
+    let next = span::span_end(source, from, Class::OctalDigit);
     if next == from {
         return Token {
             kind: kind::QUOTE,

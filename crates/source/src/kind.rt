@@ -1,4 +1,4 @@
-// The kinds of token, with the numbers of specs/Kinds. The kind of a point-word is named by its letters.
+// The kinds of token, with the numbers of specs/Kinds. The kind of a keyword is named by its letters.
 pub const END_OF_SOURCE: u16 = 0;
 
 pub const UNKNOWN: u16 = 1;

@@ -1,16 +1,16 @@
 // Bytes and tokens of the source: the token at an offset, as specs/ defines it.
-use run::Class;
+use span::Class;
 ghost use mathlib.Core.Path.{_≡_};
 ghost use lib.ListN.{drop};
 ghost use Rattle.source.specs.Tokens.{tokenOf, operatorOf, tokenAt, operatorAt};
 
 pub mod byte;
 mod constant;
+mod keyword;
 pub mod kind;
 mod number;
-mod run;
 mod sign;
-mod word;
+mod span;
 
 // Its kind; the 16 bits of a constant in figures; the offsets of its first byte and after its last.
 pub struct Token {
@@ -33,8 +33,8 @@ fn token_of(source: &[u8], at: usize) -> Token
         };
     }
     let b = source[at];
-    if run::is_in(Class::Letter, b) {
-        let next = run::run_end(source, at + 1, Class::LetterOrDigit);
+    if span::is_in(Class::Letter, b) {
+        let next = span::span_end(source, at + 1, Class::LetterOrDigit);
         return Token {
             kind: kind::NAME,
             value: 0,
@@ -42,13 +42,13 @@ fn token_of(source: &[u8], at: usize) -> Token
             next,
         };
     }
-    if run::is_in(Class::Digit, b) {
+    if span::is_in(Class::Digit, b) {
         return constant::decimal_at(source, at);
     }
     match b {
         b'-' => constant::negative_at(source, at),
         b'\'' => constant::octal_at(source, at),
-        b'.' => word::word_at(source, at),
+        b'.' => keyword::keyword_at(source, at),
         _ => sign::sign_at(source, at),
     }
 }
@@ -75,12 +75,12 @@ fn operator_of(source: &[u8], at: usize) -> Token
 pub fn token_at(source: &[u8], at: usize) -> Token
     ensures { λ r. ⌜ r ≡ tokenAt (now (source .entry)) at ⌝ }
 {
-    token_of(source, run::run_end(source, at, Class::Blank))
+    token_of(source, span::span_end(source, at, Class::Blank))
 }
 
 // The token after a whole term, cell or amount, where a minus is the operator.
 pub fn operator_at(source: &[u8], at: usize) -> Token
     ensures { λ r. ⌜ r ≡ operatorAt (now (source .entry)) at ⌝ }
 {
-    operator_of(source, run::run_end(source, at, Class::Blank))
+    operator_of(source, span::span_end(source, at, Class::Blank))
 }

@@ -1,7 +1,7 @@
 -- Laws that the proofs of the statements share.
-pub mod Laws
-pub mod Assigns
+pub mod Forms
+pub mod AssignmentLaws
 pub mod Branches
-pub mod Loops
+pub mod CountingLaws
 pub mod Lists
 pub mod Starts

@@ -1,4 +1,4 @@
--- A statement by its first token. Assumes nothing.
+-- A statement by its first token.
 use Prim.Native.Nat.{ℕ, zero, suc, _-_}
 use mathlib.Core.Path.{_≡_, refl, ap, _∙_}
 use mathlib.Core.Bool.{true, false}
@@ -11,13 +11,13 @@ use borrow.Author.Tests.{ne-eqb}
 use Rattle.source.specs.Kinds
 use Rattle.source.specs.declared.Token.{Token}
 use Rattle.source.specs.Tokens.{tokenAt, failureAt}
-use Rattle.syntax.specs.Tree.{Stmt}
-use Rattle.syntax.specs.Symbols.{Names}
-use Rattle.syntax.specs.Parse.{failAt}
-use Rattle.syntax.specs.Parse.Got.{got, failed}
-use Rattle.syntax.specs.Statements.{StmtStart, stmtStart, endsStatement, stmtFrom, stmtBy, parseStmt}
-use Rattle.syntax.specs.Expressions.{parseExpr}
-use Rattle.cells.proofs.Laws.{then-got, then-failed}
+use Rattle.tree.specs.Tree.{Stmt}
+use Rattle.tree.specs.Symbols.{Names}
+use Rattle.grammar.specs.Parse.{failAt}
+use Rattle.grammar.specs.Parse.Got.{got, failed}
+use Rattle.grammar.specs.Statements.{StmtStart, stmtStart, endsStatement, stmtFrom, stmtBy, parseStmt}
+use Rattle.grammar.specs.Expressions.{parseExpr}
+use Rattle.parser.proofs.Answers.{then-got, then-failed}
 
 -- ---- The end of a statement
 

@@ -1,28 +1,31 @@
--- The parts that the forms of a statement share, and what is promised of each form. Assumes nothing.
+-- The parts that the forms of a statement share, and what is promised of each form.
 use Prim.Native.Nat.{ℕ}
 use mathlib.Core.Path.{_≡_}
 use mathlib.Core.List.{List}
-use Rattle.source.specs.Bytes.{whether, given}
+use Rattle.prelude.specs.Choice.{whether, given}
 use Rattle.source.specs.Kinds
 use Rattle.source.specs.declared.Token.{Token}
 use Rattle.source.specs.Tokens.{tokenAt}
-use Rattle.instruction.specs.Code.{STA, LDX}
-use Rattle.syntax.specs.Tree.{Id, Array, Operand, Cell, Expr, Cond, Stmt, Stmts}
-use Rattle.syntax.specs.Symbols.{Names, asInteger}
-use Rattle.syntax.specs.Parse.{Got, andThen, is, expect}
-use Rattle.syntax.specs.Parse.Got.{got}
-use Rattle.syntax.specs.Emission.{Sym, _⧺_, cellWords, condEnd, exprWords, condWords, stmtWords}
-use Rattle.syntax.specs.Cells.{refuse, nameAs, parseLoneCell}
-use Rattle.syntax.specs.Statements as stmts
-use Rattle.cells.specs.declared.Part.{Part}
-use Rattle.cells.specs.Answers.{partOf}
-use Rattle.cells.specs.Reads.{Reads}
+use Rattle.instruction.specs.Opcode.{STA, LDX}
+use Rattle.tree.specs.Tree.{Id, Array, Operand, Cell, Expr, Cond, Stmt, Stmts}
+use Rattle.tree.specs.Symbols.{Names, asInteger}
+use Rattle.grammar.specs.Parse.{Got, andThen, is, expect}
+use Rattle.grammar.specs.Parse.Got.{got}
+use Rattle.layout.specs.Words.{Sym, _⧺_, cellWords, condEnd, exprWords, condWords, stmtWords}
+use Rattle.grammar.specs.Cells.{refuse, nameAs, parseLoneCell}
+use Rattle.grammar.specs.Statements as stmts
+use Rattle.symbols.specs.Trees.{treeId}
+use Rattle.parser.specs.declared.Part.{Part}
+use Rattle.parser.specs.Answers.{partOf}
+use Rattle.parser.specs.Reads.{Reads}
 use Rattle.emitter.specs.declared.Context.{Context}
 use Rattle.emitter.specs.declared.Output.{Output}
-use Rattle.emitter.specs.Emitted.{Emitted, Bases}
-use Rattle.emitter.specs.Lays.{Code, Kept, Lays}
-use Rattle.expressions.specs.declared.Answer.{Answer}
-use Rattle.expressions.specs.declared.Tested.{Tested}
+use Rattle.layout.specs.Emission.{Emitted, Bases}
+use Rattle.emitter.specs.Emitted.{emittedBy, basesOf}
+use Rattle.emitter.specs.Lays.{WordsAt, Kept, Lays}
+use Rattle.expressions.specs.declared.OutputAnswer.{OutputAnswer}
+use Rattle.expressions.specs.declared.ConditionAnswer.{ConditionAnswer}
+use Rattle.statements.specs.declared.counting.ForHeadAnswer.{ForHeadAnswer}
 use Rattle.expressions.specs.Compiles.{Does, Decides, namesAt, exprAt}
 
 -- ---- What is parsed
@@ -64,14 +67,14 @@ parseHead source names expr t =
 -- ---- What is emitted
 
 -- an expression, stored in a cell
-unfoldable pub storedWords : Cell → Expr → Code
+unfoldable pub storedWords : Cell → Expr → WordsAt
 storedWords c e at = exprWords e at ⧺ cellWords STA c
 
 -- a cell, loaded to X
-unfoldable pub loadedWords : Cell → Code
+unfoldable pub loadedWords : Cell → WordsAt
 loadedWords c at = cellWords LDX c
 
-unfoldable pub headWords : Head → Code
+unfoldable pub headWords : Head → WordsAt
 headWords (Head.integer i e) at = storedWords (Cell.plain (Operand.named i)) e at
 headWords (Head.hash c) at = loadedWords c at
 
@@ -82,11 +85,11 @@ guardedWords part at z = condWords (part .0) at z ⧺ stmtWords (part .1) (condE
 -- ---- Contracts
 
 -- a statement
-abbrev pub Stated : Context → Output → List ℕ → List ℕ → Answer → Got Stmt → Type 0
+abbrev pub Stated : Context → Output → List ℕ → List ℕ → OutputAnswer → Got Stmt → Type 0
 Stated = Does stmtWords
 
 -- a guarded part
-abbrev pub Guards : Context → Output → List ℕ → List ℕ → Tested → Got (Cond × Stmt) → Type 0
+abbrev pub Guards : Context → Output → List ℕ → List ℕ → ConditionAnswer → Got (Cond × Stmt) → Type 0
 Guards = Decides guardedWords
 
 -- the definition of each form, at the levels that are left for its own expressions and for the statements in it
@@ -96,6 +99,12 @@ module _ (source : List ℕ) (context : Context) (table : List ℕ) where
 
   abbrev pub guardedAt : ℕ → ℕ → ℕ → ℕ → Got (Cond × Stmt)
   guardedAt word left inner at = stmts.parseGuarded source (namesAt context table) (exprAt source context table left) (stmtAt inner) word at
+
+  abbrev pub valueAt : ℕ → ℕ → Got Expr
+  valueAt left at = afterEqual source (exprAt source context table left) at
+
+  abbrev pub loadAt : ℕ → Got Cell
+  loadAt at = afterEqual source (parseLoneCell source (namesAt context table)) at
 
   abbrev pub elementAt : ℕ → Array → ℕ → Got Stmt
   elementAt left array at = stmts.parseElement source (namesAt context table) (exprAt source context table left) array at
@@ -118,6 +127,9 @@ module _ (source : List ℕ) (context : Context) (table : List ℕ) where
   abbrev pub stmtsAt : ℕ → ℕ → Got Stmts
   stmtsAt left at = stmts.parseStmts source (namesAt context table) (stmtAt left) at
 
+  abbrev pub outermostAt : ℕ → Got Stmts
+  outermostAt at = stmts.parseOutermost source (namesAt context table) at
+
   abbrev pub compoundAt : ℕ → ℕ → Got Stmt
   compoundAt inner at = stmts.parseCompound source (namesAt context table) (stmtAt inner) at
 
@@ -127,3 +139,7 @@ module _ (source : List ℕ) (context : Context) (table : List ℕ) where
 -- a head, with what it counts
 abbrev pub Heads : Bases → Emitted → Emitted → Part → Id → Got Head → Type 0
 Heads f a b part counter g = Reads (λ h. Lays f a b (headWords h) × (counter ≡ counterOf h)) (Kept a b) part g
+
+-- the same of a function's answer
+abbrev pub DoesHead : Context → Output → List ℕ → List ℕ → ForHeadAnswer → Got Head → Type 0
+DoesHead context output before after r g = Heads (basesOf context) (emittedBy output before) (emittedBy (r .answer .output) after) (r .answer .part) (treeId (r .id)) g

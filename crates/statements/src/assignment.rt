@@ -1,25 +1,24 @@
 // Assignments: to a cell, to the accumulator, and to X.
-use cells::Part;
 use cells::cell::lone_cell_at;
 use cells::cell::subscript_at;
-use cells::expect;
 use emitter::Context;
 use emitter::Output;
 use emitter::emit_cell;
-use expressions::Answer;
+use expressions::OutputAnswer;
 use expressions::expression;
-use instruction::code;
+use instruction::opcode;
+use parser::Part;
+use parser::expect;
 use source::kind;
 use symbols::Array;
 use symbols::Cell;
 use symbols::Id;
 use symbols::Operand;
 ghost use mathlib.Core.Path.{_≡_};
-ghost use Rattle.syntax.specs.Emission.{exprWords};
-ghost use Rattle.syntax.specs.Cells.{parseLoneCell};
+ghost use Rattle.layout.specs.Words.{exprWords};
 ghost use Rattle.symbols.specs.Trees.{treeArray, treeCell};
-ghost use Rattle.expressions.specs.Compiles.{Does, namesAt, exprAt};
-ghost use Rattle.statements.specs.Forms.{afterEqual, storedWords, loadedWords, Stated, elementAt};
+ghost use Rattle.expressions.specs.Compiles.{Does};
+ghost use Rattle.statements.specs.Forms.{storedWords, loadedWords, Stated, valueAt, loadAt, elementAt};
 
 // `=` expression.
 pub fn assigned(
@@ -30,13 +29,13 @@ pub fn assigned(
     at: usize,
     left: usize,
     output: Output,
-) -> Answer
+) -> OutputAnswer
     ensures { λ r. ⌜ Does exprWords context output (now (image .entry)) (now (image .exit)) r
-        (afterEqual (now (source .entry)) (exprAt (now (source .entry)) context (now (table .entry)) left) at) ⌝ }
+        (valueAt (now (source .entry)) context (now (table .entry)) left at) ⌝ }
 {
     let part = expect(source, kind::EQUAL, at);
     let Part::Read { next } = part else {
-        return Answer { part, output };
+        return OutputAnswer { part, output };
     };
     expression(source, table, image, context, next, left, output)
 }
@@ -60,20 +59,20 @@ pub fn store(
     at: usize,
     left: usize,
     output: Output,
-) -> Answer
+) -> OutputAnswer
     ensures { λ r. ⌜ Does (storedWords (treeCell cell)) context output (now (image .entry)) (now (image .exit)) r
-        (afterEqual (now (source .entry)) (exprAt (now (source .entry)) context (now (table .entry)) left) at) ⌝ }
+        (valueAt (now (source .entry)) context (now (table .entry)) left at) ⌝ }
 {
     let value = assigned(source, table, image, context, at, left, output);
     let part = value.part;
     let Part::Read { next: _ } = part else {
         return value;
     };
-    let held = value.output;
-    let stored = emit_cell(image, context, held, code::STA, cell);
-    Answer {
+    let after_value = value.output;
+    let after_store = emit_cell(image, context, after_value, opcode::STA, cell);
+    OutputAnswer {
         part,
-        output: stored,
+        output: after_store,
     }
 }
 
@@ -87,14 +86,14 @@ pub fn element(
     at: usize,
     left: usize,
     output: Output,
-) -> Answer
+) -> OutputAnswer
     ensures { λ r. ⌜ Stated context output (now (image .entry)) (now (image .exit)) r
         (elementAt (now (source .entry)) context (now (table .entry)) left (treeArray array) at) ⌝ }
 {
     let found = subscript_at(source, table, context.names, at);
     let part = found.part;
     let Part::Read { next } = part else {
-        return Answer { part, output };
+        return OutputAnswer { part, output };
     };
     let subscript = found.subscript;
     let cell = Cell::Item { array, subscript };
@@ -109,23 +108,23 @@ pub fn set_x(
     context: Context,
     at: usize,
     output: Output,
-) -> Answer
+) -> OutputAnswer
     ensures { λ r. ⌜ Does loadedWords context output (now (image .entry)) (now (image .exit)) r
-        (afterEqual (now (source .entry)) (parseLoneCell (now (source .entry)) (namesAt context (now (table .entry)))) at) ⌝ }
+        (loadAt (now (source .entry)) context (now (table .entry)) at) ⌝ }
 {
     let part = expect(source, kind::EQUAL, at);
     let Part::Read { next } = part else {
-        return Answer { part, output };
+        return OutputAnswer { part, output };
     };
     let found = lone_cell_at(source, table, context.names, next);
     let part = found.part;
     let Part::Read { next: _ } = part else {
-        return Answer { part, output };
+        return OutputAnswer { part, output };
     };
     let cell = found.cell;
-    let loaded = emit_cell(image, context, output, code::LDX, cell);
-    Answer {
+    let after_load = emit_cell(image, context, output, opcode::LDX, cell);
+    OutputAnswer {
         part,
-        output: loaded,
+        output: after_load,
     }
 }

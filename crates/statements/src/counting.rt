@@ -2,22 +2,20 @@
 use crate::assignment::plain;
 use crate::assignment::set_x;
 use crate::assignment::store;
-use cells::refuse_at;
-use cells::symbol_at;
 use emitter::Context;
 use emitter::Output;
-use expressions::Answer;
+use expressions::OutputAnswer;
+use parser::refuse_at;
 use source::kind;
 use source::token_at;
 use symbols::Id;
 use symbols::Symbol;
-ghost use Rattle.symbols.specs.Trees.{treeId};
-ghost use Rattle.emitter.specs.Emitted.{emittedBy, basesOf};
-ghost use Rattle.statements.specs.Forms.{headAt, Heads};
+use symbols::lookup::lookup_at;
+ghost use Rattle.statements.specs.Forms.{headAt, DoesHead};
 
 // What stands before a `.DO`: its answer, and the integer that is counted.
-pub struct Head {
-    pub answer: Answer,
+pub struct ForHeadAnswer {
+    pub answer: OutputAnswer,
     pub id: Id,
 }
 
@@ -30,23 +28,22 @@ pub fn for_head(
     at: usize,
     left: usize,
     output: Output,
-) -> Head
-    ensures { λ r. ⌜ Heads (basesOf context) (emittedBy output (now (image .entry))) (emittedBy (r .answer .output) (now (image .exit)))
-        (r .answer .part) (treeId (r .id))
+) -> ForHeadAnswer
+    ensures { λ r. ⌜ DoesHead context output (now (image .entry)) (now (image .exit)) r
         (headAt (now (source .entry)) context (now (table .entry)) left at) ⌝ }
 {
     let t = token_at(source, at);
     let next = t.next;
     if t.kind == kind::HASH {
         let answer = set_x(source, table, image, context, next, output);
-        return Head { answer, id: Id::X };
+        return ForHeadAnswer { answer, id: Id::X };
     }
-    let symbol = symbol_at(source, table, context.names, at);
+    let symbol = lookup_at(source, table, context.names, at);
     let Symbol::Integer { id } = symbol else {
         let part = refuse_at(source, at);
-        let answer = Answer { part, output };
-        return Head { answer, id: Id::X };
+        let answer = OutputAnswer { part, output };
+        return ForHeadAnswer { answer, id: Id::X };
     };
     let answer = store(source, table, image, context, plain(id), next, left, output);
-    Head { answer, id }
+    ForHeadAnswer { answer, id }
 }

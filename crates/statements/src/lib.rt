@@ -5,33 +5,34 @@ use crate::assignment::plain;
 use crate::assignment::set_x;
 use crate::assignment::store;
 use crate::counting::for_head;
-use cells::Part;
 use cells::StatementStart as Start;
-use cells::expect;
-use cells::fail_at;
-use cells::failures;
-use cells::openings::statement_start_at;
+use cells::starts::statement_start_at;
 use emitter::Context;
 use emitter::Output;
 use emitter::emit_jump;
 use emitter::emit_memory;
 use emitter::fill_jump;
-use expressions::Answer;
-use expressions::Tested;
+use expressions::ConditionAnswer;
+use expressions::OutputAnswer;
 use expressions::call;
 use expressions::condition;
 use expressions::relation::emit_hole;
-use instruction::code;
+use instruction::opcode;
+use parser::Part;
+use parser::expect;
+use parser::fail_at;
+use parser::failures;
 use source::Token;
 use source::kind;
 use source::token_at;
 use symbols::Operand;
 ghost use mathlib.Core.Path.{_≡_};
-ghost use Rattle.syntax.specs.Emission.{stmtsWords};
-ghost use Rattle.syntax.specs.Statements.{endsStatement, parseOutermost};
+ghost use Rattle.layout.specs.Words.{stmtsWords};
+ghost use Rattle.grammar.specs.Statements.{endsStatement};
 ghost use Rattle.cells.specs.Answers.{treeStatementStart};
-ghost use Rattle.expressions.specs.Compiles.{Does, namesAt};
-ghost use Rattle.statements.specs.Forms.{followedPart, Stated, Guards, stmtAt, guardedAt, ifAt, whenAt, whileAt, forAt, stmtsAt, compoundAt, formAt};
+ghost use Rattle.expressions.specs.Compiles.{Does};
+ghost use Rattle.statements.specs.Forms.{followedPart, Stated, Guards};
+ghost use Rattle.statements.specs.Forms.{stmtAt, guardedAt, ifAt, whenAt, whileAt, forAt, stmtsAt, outermostAt, compoundAt, formAt};
 
 mod assignment;
 mod counting;
@@ -72,7 +73,7 @@ fn guarded(
     left: usize,
     inner: usize,
     output: Output,
-) -> Tested
+) -> ConditionAnswer
     ensures { λ r. ⌜ Guards context output (now (image .entry)) (now (image .exit)) r
         (guardedAt (now (source .entry)) context (now (table .entry)) word left inner at) ⌝ }
 {
@@ -81,7 +82,7 @@ fn guarded(
     let after_test = test.output;
     let part = followed_by(source, tested, word);
     let Part::Read { next } = part else {
-        return Tested {
+        return ConditionAnswer {
             part,
             output: after_test,
             hole: 0,
@@ -91,13 +92,13 @@ fn guarded(
     let part = body.part;
     let after_body = body.output;
     let Part::Read { next: _ } = part else {
-        return Tested {
+        return ConditionAnswer {
             part,
             output: after_body,
             hole: 0,
         };
     };
-    Tested {
+    ConditionAnswer {
         part,
         output: after_body,
         hole: test.hole,
@@ -114,7 +115,7 @@ fn if_statement(
     left: usize,
     inner: usize,
     output: Output,
-) -> Answer
+) -> OutputAnswer
     ensures { λ r. ⌜ Stated context output (now (image .entry)) (now (image .exit)) r
         (ifAt (now (source .entry)) context (now (table .entry)) left inner at) ⌝ }
 {
@@ -133,21 +134,21 @@ fn if_statement(
     let after_first = first.output;
     let part = followed_by(source, done, kind::ELSE);
     let Part::Read { next } = part else {
-        return Answer {
+        return OutputAnswer {
             part,
             output: after_first,
         };
     };
     let end = emit_hole(image, after_first);
     let after_jump = end.output;
-    fill_jump(image, first.hole, after_jump.code);
+    fill_jump(image, first.hole, after_jump.next);
     let second = statement(source, table, image, context, next, inner, after_jump);
     let part = second.part;
     let Part::Read { next: _ } = part else {
         return second;
     };
     let after_second = second.output;
-    fill_jump(image, end.hole, after_second.code);
+    fill_jump(image, end.hole, after_second.next);
     second
 }
 
@@ -161,7 +162,7 @@ fn when_statement(
     left: usize,
     inner: usize,
     output: Output,
-) -> Answer
+) -> OutputAnswer
     ensures { λ r. ⌜ Stated context output (now (image .entry)) (now (image .exit)) r
         (whenAt (now (source .entry)) context (now (table .entry)) left inner at) ⌝ }
 {
@@ -179,13 +180,13 @@ fn when_statement(
     let part = all.part;
     let after_body = all.output;
     let Part::Read { next: _ } = part else {
-        return Answer {
+        return OutputAnswer {
             part,
             output: after_body,
         };
     };
-    fill_jump(image, all.hole, after_body.code);
-    Answer {
+    fill_jump(image, all.hole, after_body.next);
+    OutputAnswer {
         part,
         output: after_body,
     }
@@ -201,11 +202,11 @@ fn while_statement(
     left: usize,
     inner: usize,
     output: Output,
-) -> Answer
+) -> OutputAnswer
     ensures { λ r. ⌜ Stated context output (now (image .entry)) (now (image .exit)) r
         (whileAt (now (source .entry)) context (now (table .entry)) left inner at) ⌝ }
 {
-    let start = output.code;
+    let start = output.next;
     let all = guarded(
         source,
         table,
@@ -220,14 +221,14 @@ fn while_statement(
     let part = all.part;
     let after_body = all.output;
     let Part::Read { next: _ } = part else {
-        return Answer {
+        return OutputAnswer {
             part,
             output: after_body,
         };
     };
     let after_jump = emit_jump(image, after_body, start);
-    fill_jump(image, all.hole, after_jump.code);
-    Answer {
+    fill_jump(image, all.hole, after_jump.next);
+    OutputAnswer {
         part,
         output: after_jump,
     }
@@ -243,7 +244,7 @@ fn for_statement(
     left: usize,
     inner: usize,
     output: Output,
-) -> Answer
+) -> OutputAnswer
     ensures { λ r. ⌜ Stated context output (now (image .entry)) (now (image .exit)) r
         (forAt (now (source .entry)) context (now (table .entry)) left inner at) ⌝ }
 {
@@ -254,27 +255,33 @@ fn for_statement(
     let id = head.id;
     let part = followed_by(source, counted, kind::DO);
     let Part::Read { next } = part else {
-        return Answer {
+        return OutputAnswer {
             part,
             output: after_head,
         };
     };
-    let start = after_head.code;
+    let start = after_head.next;
     let body = statement(source, table, image, context, next, inner, after_head);
     let part = body.part;
     let Part::Read { next: _ } = part else {
         return body;
     };
     let after_body = body.output;
-    let after_count = emit_memory(image, context, after_body, code::IRS, Operand::Named { id });
+    let after_count = emit_memory(
+        image,
+        context,
+        after_body,
+        opcode::IRS,
+        Operand::Named { id },
+    );
     let after_jump = emit_jump(image, after_count, start);
-    Answer {
+    OutputAnswer {
         part,
         output: after_jump,
     }
 }
 
-// Statements of a level, parted by `;`. Each `;` takes a byte, so the source has as many bytes as there are turns.
+// Statements of a level, separated by `;`. Each `;` takes a byte, so the source has as many bytes as there are turns.
 fn listed(
     source: &[u8],
     table: &[u16],
@@ -283,15 +290,15 @@ fn listed(
     at: usize,
     left: usize,
     output: Output,
-) -> Answer
+) -> OutputAnswer
     ensures { λ r. ⌜ Does stmtsWords context output (now (image .entry)) (now (image .exit)) r
         (stmtsAt (now (source .entry)) context (now (table .entry)) left at) ⌝ }
 {
     let mut turns = source.len();
     let mut i = at;
-    let mut held = output;
+    let mut so_far = output;
     loop {
-        let one = statement(source, table, image, context, i, left, held);
+        let one = statement(source, table, image, context, i, left, so_far);
         let part = one.part;
         let Part::Read { next } = part else {
             return one;
@@ -303,8 +310,8 @@ fn listed(
         if t.kind != kind::SEMICOLON {
             return one;
         }
-        let laid = one.output;
-        held = laid;
+        let after_one = one.output;
+        so_far = after_one;
         i = t.next;
         turns -= 1;
     }
@@ -319,15 +326,18 @@ fn compound(
     at: usize,
     inner: usize,
     output: Output,
-) -> Answer
+) -> OutputAnswer
     ensures { λ r. ⌜ Stated context output (now (image .entry)) (now (image .exit)) r
         (compoundAt (now (source .entry)) context (now (table .entry)) inner at) ⌝ }
 {
     let all = listed(source, table, image, context, at, inner, output);
     let done = all.part;
-    let laid = all.output;
+    let after_statements = all.output;
     let part = followed_by(source, done, kind::END);
-    Answer { part, output: laid }
+    OutputAnswer {
+        part,
+        output: after_statements,
+    }
 }
 
 // A statement from after its first token.
@@ -341,7 +351,7 @@ fn form(
     left: usize,
     inner: usize,
     output: Output,
-) -> Answer
+) -> OutputAnswer
     ensures { λ r. ⌜ Stated context output (now (image .entry)) (now (image .exit)) r
         (formAt (now (source .entry)) context (now (table .entry)) left inner (treeStatementStart start) at) ⌝ }
 {
@@ -368,22 +378,23 @@ fn statement(
     at: usize,
     left: usize,
     output: Output,
-) -> Answer
-    ensures { λ r. ⌜ Stated context output (now (image .entry)) (now (image .exit)) r (stmtAt (now (source .entry)) context (now (table .entry)) left at) ⌝ }
+) -> OutputAnswer
+    ensures { λ r. ⌜ Stated context output (now (image .entry)) (now (image .exit)) r
+        (stmtAt (now (source .entry)) context (now (table .entry)) left at) ⌝ }
 {
     let t = token_at(source, at);
     if ends_statement(t) {
         let part = Part::Read { next: at };
-        return Answer { part, output };
+        return OutputAnswer { part, output };
     }
     let found = statement_start_at(source, table, context.names, at);
     let part = found.part;
     let Part::Read { next } = part else {
-        return Answer { part, output };
+        return OutputAnswer { part, output };
     };
     if left == 0 {
         let part = fail_at(t, failures::TOO_DEEP);
-        return Answer { part, output };
+        return OutputAnswer { part, output };
     }
     let start = found.start;
     form(
@@ -407,9 +418,9 @@ pub fn statements(
     context: Context,
     at: usize,
     output: Output,
-) -> Answer
+) -> OutputAnswer
     ensures { λ r. ⌜ Does stmtsWords context output (now (image .entry)) (now (image .exit)) r
-        (parseOutermost (now (source .entry)) (namesAt context (now (table .entry))) at) ⌝ }
+        (outermostAt (now (source .entry)) context (now (table .entry)) at) ⌝ }
 {
     listed(source, table, image, context, at, LEVELS, output)
 }

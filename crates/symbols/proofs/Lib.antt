@@ -1,4 +1,4 @@
 -- What the proofs of several crates use.
 pub mod Packing
-pub mod Entries
-pub mod Tokens
+pub mod Table
+pub mod PackedTokens

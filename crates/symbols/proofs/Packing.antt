@@ -1,4 +1,4 @@
--- Packing loses nothing: three words give back their name, a name its three words, and names pack alike exactly if they are the same. Assumes nothing.
+-- Packing loses nothing: three words give back their name, a name its three words, and names pack alike exactly if they are the same.
 use Prim.Native.Nat.{ℕ, zero, suc, _+_, _*_, _/_, _%_, _≤_, _<_}
 use mathlib.Core.Path.{_≡_, refl, sym, ap, _∙_}
 use mathlib.Core.Bool.{Bool, true, false, _&&_, _||_}
@@ -7,10 +7,11 @@ use native.Mathlib.Omega.{arith}
 use lib.ListN.{length, getD}
 use lib.Dec.{eqb, leb}
 use borrow.Author.Tests.{eqb-true, eq-eqb, ne-eqb, leb-true}
-use Rattle.source.specs.Bytes.{whether, isLetterOrDigit, sameBytes}
+use Rattle.prelude.specs.Choice.{whether}
+use Rattle.source.specs.Bytes.{isLetterOrDigit, sameBytes}
 use Rattle.source.proofs.Same.{equal}
-use Rattle.syntax.specs.Tree.{Name}
-use Rattle.syntax.specs.Symbols.{isX}
+use Rattle.tree.specs.Tree.{Name}
+use Rattle.tree.specs.Symbols.{isX}
 use Rattle.symbols.specs.declared.Packed.{Packed}
 use Rattle.symbols.specs.Packing.{allNameBytes, packOf, samePacked, beforeTrimmed, trimmed, sixBytes, unpack}
 

@@ -3,13 +3,14 @@ use mathlib.Core.Path.{_≡_, refl}
 use mathlib.Core.List.{List, [], _∷_}
 use mathlib.Core.Option.{none, some}
 use Prim.Native.Nat.{ℕ}
-use Rattle.source.specs.Bytes.{bytes, sameBytes, find}
+use Rattle.source.specs.Bytes.{bytes, sameBytes}
+use Rattle.prelude.specs.Choice.{find}
 use Rattle.source.specs.Kinds
 use Rattle.source.specs.Tokens.{token, nameOf}
-use Rattle.syntax.specs.Tree.{Id}
-use Rattle.syntax.specs.Symbols.{Symbol, Level, nextId}
+use Rattle.tree.specs.Tree.{Id}
+use Rattle.tree.specs.Symbols.{Symbol, Level, nextId}
 use Rattle.symbols.specs.Packing.{packOf, trimmed, beforeTrimmed, unpack}
-use Rattle.symbols.specs.Table.{numberOf, dataOf, levelOf, symbolFrom, entryAt, rowAt, entriesOf, heldBy, stored, withRow, tableWith}
+use Rattle.symbols.specs.Table.{numberOf, dataOf, levelOf, symbolFrom, entryAt, rowAt, entriesOf, liveNames, withWords, withRow, tableWith}
 
 packed : packOf (bytes "TOTAL") ≡ record { one = 0o052117; two = 0o052101; three = 0o046000 }
 unfolding packOf
@@ -37,17 +38,17 @@ unfolding table entriesOf rowAt unpack trimmed beforeTrimmed entryAt levelOf sym
 held = refl
 
 -- "a local hides a global"
-newest : find (sameBytes (bytes "A")) (heldBy 2 table) ≡ some (bytes "A", record { level = Level.inner 4; symbol = Symbol.constant (Id.local 4 0) 9 })
-unfolding table heldBy entriesOf rowAt unpack trimmed beforeTrimmed entryAt levelOf symbolFrom nextId find sameBytes
+newest : find (sameBytes (bytes "A")) (liveNames 2 table) ≡ some (bytes "A", record { level = Level.inner 4; symbol = Symbol.constant (Id.local 4 0) 9 })
+unfolding table liveNames entriesOf rowAt unpack trimmed beforeTrimmed entryAt levelOf symbolFrom nextId find sameBytes
 newest = refl
 
-too-short : find (sameBytes (bytes "A")) (heldBy 3 table) ≡ none
-unfolding table heldBy find
+too-short : find (sameBytes (bytes "A")) (liveNames 3 table) ≡ none
+unfolding table liveNames find
 too-short = refl
 
 -- the first entry of that table declared; without room nothing is stored
 declared : tableWith 0 (0 ∷ 0 ∷ 0 ∷ 0 ∷ 0 ∷ 0 ∷ 0 ∷ 1 ∷ []) (packOf (bytes "A")) 0 (Symbol.integer (Id.global 3)) ≡ 0o040400 ∷ 0 ∷ 0 ∷ 0 ∷ 1 ∷ 3 ∷ 0 ∷ 1 ∷ []
-unfolding tableWith withRow stored packOf dataOf numberOf
+unfolding tableWith withRow withWords packOf dataOf numberOf
 declared = refl
 
 no-room : tableWith 1 (0 ∷ 0 ∷ 0 ∷ 0 ∷ 0 ∷ 0 ∷ 0 ∷ 1 ∷ []) (packOf (bytes "A")) 0 (Symbol.integer (Id.global 3)) ≡ 0 ∷ 0 ∷ 0 ∷ 0 ∷ 0 ∷ 0 ∷ 0 ∷ 1 ∷ []

@@ -3,3 +3,4 @@ pub mod Trees
 pub mod Packing
 pub mod Table
 pub mod Examples
+pub mod Lookup

@@ -1,11 +1,12 @@
--- Names packed: two characters a word, the first in the upper byte, 0 where there is none. Assumes nothing.
+-- Names packed: two characters a word, the first in the upper byte, 0 where there is none.
 use Prim.Native.Nat.{ℕ, _+_, _*_, _/_, _%_}
 use mathlib.Core.Bool.{Bool, true, false}
 use mathlib.Core.List.{List, [], _∷_}
 use lib.ListN.{getD}
 use lib.Dec.{eqb}
-use Rattle.source.specs.Bytes.{whether, isLetterOrDigit}
-use Rattle.syntax.specs.Tree.{Name}
+use Rattle.prelude.specs.Choice.{whether}
+use Rattle.source.specs.Bytes.{isLetterOrDigit}
+use Rattle.tree.specs.Tree.{Name}
 use Rattle.symbols.specs.declared.Packed.{Packed}
 
 -- "letters or digits"

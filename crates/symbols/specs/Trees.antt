@@ -1,6 +1,6 @@
--- What the code's symbols and cells stand for in the definitions. Assumes nothing.
-use Rattle.syntax.specs.Tree as tree
-use Rattle.syntax.specs.Symbols as symbols
+-- What the code's symbols and cells stand for in the definitions.
+use Rattle.tree.specs.Tree as tree
+use Rattle.tree.specs.Symbols as symbols
 use Rattle.symbols.specs.declared.Id.{Id}
 use Rattle.symbols.specs.declared.Array.{Array}
 use Rattle.symbols.specs.declared.Operand.{Operand}

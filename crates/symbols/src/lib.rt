@@ -2,21 +2,22 @@
 // Also what a name stands for, and what a cell is made of, as parsing hands it to emission: values only, no addresses.
 ghost use mathlib.Core.Path.{_≡_};
 ghost use Prim.Native.Nat.{_+_, _≤_, _<_};
-ghost use lib.ListN.{length, replicate};
+ghost use lib.ListN.{length};
 ghost use Rattle.source.specs.Tokens.{nameOf};
-ghost use Rattle.syntax.specs.Symbols.{isX, symbolOf, nextId};
-ghost use Rattle.syntax.specs.Declarations.{isTaken};
+ghost use Rattle.tree.specs.Symbols.{isX, symbolOf, nextId, isTaken};
 ghost use Rattle.symbols.specs.Trees.{treeId, treeSymbol};
 ghost use Rattle.symbols.specs.Packing.{samePacked, packedAt, pair, packOf, unpack};
-ghost use Rattle.symbols.specs.Table.{entryWords, numberOf, dataOf, levelOf, entryAt, heldBy, Newest, Declared};
+ghost use Rattle.symbols.specs.Table.{entryWords, numberOf, dataOf, levelOf, entryAt, liveNames, Newest, Entered};
 use source::Token;
 use source::byte::name_byte;
 
-// Words of an entry: the packed name, the level, and a code, a number and a value that give the symbol.
+pub mod lookup;
+
+// Words of an entry: the packed name, the level, and a tag, a number and a value that give the symbol.
 // The level is 0 for a global, and 1 more than its procedure's number for a local.
 const ENTRY: usize = 7;
 
-// The codes of the symbols; UNKNOWN and any other are a name that nothing is known of.
+// The tags of the symbols; UNKNOWN and any other are a name that nothing is known of.
 const INTEGER: u16 = 1;
 
 const CONSTANT: u16 = 2;
@@ -81,20 +82,9 @@ pub struct Packed {
 
 // A symbol as words.
 pub struct Data {
-    pub code: u16,
+    pub tag: u16,
     pub number: u16,
     pub value: u16,
-}
-
-// All zeros.
-pub fn clear(table: &mut [u16])
-    ensures { λ _. ⌜ now (table .exit) ≡ replicate (length (now (table .entry))) 0 ⌝ }
-{
-    let mut i = 0;
-    while i < table.len() {
-        table[i] = 0;
-        i += 1;
-    }
 }
 
 // Two characters of a name in a word.
@@ -161,22 +151,22 @@ fn data_of(symbol: Symbol) -> Data
 {
     match symbol {
         Symbol::Integer { id } => Data {
-            code: INTEGER,
+            tag: INTEGER,
             number: number_of(id),
             value: 0,
         },
         Symbol::Constant { id, value } => Data {
-            code: CONSTANT,
+            tag: CONSTANT,
             number: number_of(id),
             value,
         },
         Symbol::Compconstant { value } => Data {
-            code: COMPCONSTANT,
+            tag: COMPCONSTANT,
             number: 0,
             value,
         },
         Symbol::Array { array } => Data {
-            code: ARRAY,
+            tag: ARRAY,
             number: array.number,
             value: array.size,
         },
@@ -184,12 +174,12 @@ fn data_of(symbol: Symbol) -> Data
             number,
             accumulator,
         } => Data {
-            code: if accumulator { FUNCTION } else { PROCEDURE },
+            tag: if accumulator { FUNCTION } else { PROCEDURE },
             number,
             value: 0,
         },
         Symbol::Unknown => Data {
-            code: UNKNOWN,
+            tag: UNKNOWN,
             number: 0,
             value: 0,
         },
@@ -215,11 +205,11 @@ fn symbol_at(table: &[u16], at: usize) -> Symbol
     ensures { λ r. ⌜ treeSymbol r ≡ entryAt (now (table .entry)) at .symbol ⌝ }
 {
     let level = table[at + 3];
-    let code = table[at + 4];
+    let tag = table[at + 4];
     let number = table[at + 5];
     let value = table[at + 6];
     let id = id_of(level, number);
-    match code {
+    match tag {
         INTEGER => Symbol::Integer { id },
         CONSTANT => Symbol::Constant { id, value },
         COMPCONSTANT => Symbol::Compconstant { value },
@@ -260,7 +250,7 @@ fn newest(table: &[u16], count: usize, name: Packed) -> usize
 
 // What a name stands for, by the table's first `count` entries.
 pub fn find(table: &[u16], count: usize, name: Packed) -> Symbol
-    ensures { λ r. ⌜ treeSymbol r ≡ symbolOf (heldBy count (now (table .entry))) (unpack name) ⌝ }
+    ensures { λ r. ⌜ treeSymbol r ≡ symbolOf (liveNames count (now (table .entry))) (unpack name) ⌝ }
 {
     if is_x(name) {
         return Symbol::Integer { id: Id::X };
@@ -274,7 +264,7 @@ pub fn find(table: &[u16], count: usize, name: Packed) -> Symbol
 
 // Whether a name is declared at a level, or X.
 pub fn is_taken(table: &[u16], count: usize, name: Packed, level: u16) -> bool
-    ensures { λ r. ⌜ r ≡ isTaken (record { names = heldBy count (now (table .entry)); level = levelOf level; words = 0 }) (unpack name) ⌝ }
+    ensures { λ r. ⌜ r ≡ isTaken (record { names = liveNames count (now (table .entry)); level = levelOf level; taken = 0 }) (unpack name) ⌝ }
 {
     if is_x(name) {
         return true;
@@ -293,7 +283,7 @@ pub fn is_taken(table: &[u16], count: usize, name: Packed, level: u16) -> bool
 // An entry above the first `count`, which stay; what stood above them is dropped. A table without room stays as it is.
 // An id in the entry is of the entry's level, whatever level the symbol's has.
 pub fn declare(table: &mut [u16], count: usize, name: Packed, level: u16, symbol: Symbol)
-    ensures { λ _. ⌜ Declared count (now (table .entry)) name level (treeSymbol symbol) (now (table .exit)) ⌝ }
+    ensures { λ _. ⌜ Entered count (now (table .entry)) name level (treeSymbol symbol) (now (table .exit)) ⌝ }
 {
     if count < table.len() / ENTRY {
         let data = data_of(symbol);
@@ -302,7 +292,7 @@ pub fn declare(table: &mut [u16], count: usize, name: Packed, level: u16, symbol
         table[at + 1] = name.two;
         table[at + 2] = name.three;
         table[at + 3] = level;
-        table[at + 4] = data.code;
+        table[at + 4] = data.tag;
         table[at + 5] = data.number;
         table[at + 6] = data.value;
     }

@@ -1,4 +1,4 @@
--- What a comparison can come to. Assumes nothing.
+-- What a comparison can come to.
 use Prim.Native.Nat.{ℕ, _<_}
 use mathlib.Core.Bool.{Bool, true, false, cond}
 use native.Mathlib.Omega.{arith}

@@ -1,5 +1,5 @@
 -- When the sign changes on the way: exactly if the magnitude times 2^n does not fit a word.
--- Assumes nothing.
+--
 use Prim.Native.Nat.{ℕ, zero, suc, _-_, _*_, _≤_, _<_, _/_, _%_, _^_}
 use mathlib.Core.Path.{_≡_, refl, ap, sym, _∙_}
 use mathlib.Core.Bool.{Bool, true, false, cond}

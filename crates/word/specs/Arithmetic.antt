@@ -1,5 +1,5 @@
 -- Words of 16 bits are numbers below 65536. Sums, differences and comparisons, as document 01's "Order table" has them.
--- Assumes nothing.
+--
 use Prim.Native.Nat.{ℕ, _+_, _-_, _%_}
 use mathlib.Core.Bool.{Bool, true, cond}
 use lib.Dec.{eqb, leb, ltb}

@@ -1,5 +1,5 @@
 -- The byte moves of document 01's "Order table": "On bytes (a,b): ICA (b,a), CAL (0,b), CAR (a,0), ICR (b,0), ICL (0,b)".
--- Assumes nothing.
+--
 use Prim.Native.Nat.{ℕ, _+_, _*_, _/_, _%_}
 
 -- the bytes a and b of a word, and the word (a,b)

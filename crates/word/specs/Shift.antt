@@ -1,5 +1,5 @@
 -- The six shifts, as document 01's "Order table" has them: by n from 1 to 15; "C is the last bit moved out; for ALS, 1 exactly if the sign
--- changed on the way". Assumes nothing.
+-- changed on the way".
 use Prim.Native.Nat.{ℕ, zero, suc, _+_, _-_, _*_, _/_, _%_, _^_}
 use mathlib.Core.Bool.{Bool, true, false, cond}
 use lib.Dec.{eqb, ltb}

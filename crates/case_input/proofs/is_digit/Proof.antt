@@ -1,4 +1,3 @@
--- `is_digit` meets its contract. Assumes nothing.
 use borrow.Author.Tests.{le-leb, lt-leb}
 use Rattle.case_input.proofs.is_digit.Statement.{statement}
 use Rattle.case_input.proofs.is_digit.Tie as tie

@@ -1,4 +1,4 @@
--- `parse_number` meets its contract: what is left of the text decides. Assumes nothing.
+-- What is left of the text decides.
 use mathlib.Core.Path.{_≡_, refl, sym, _∙_}
 use Prim.Native.Nat.{_-_}
 use borrow.Author.Needs.{needs}

@@ -1,4 +1,3 @@
--- `part_end` meets its contract. Assumes nothing.
 use borrow.Author.Tests.{le-leb, lt-leb}
 use native.Mathlib.Omega.{arith}
 use Rattle.case_input.specs.Cases.{partEnd}

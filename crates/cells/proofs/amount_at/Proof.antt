@@ -1,6 +1,6 @@
 use mathlib.Core.Logic.{⊎-elim}
 use borrow.Author.Tests.{le-leb, lt-leb}
-use Rattle.cells.proofs.Laws.{range-failed, range-in, range-out}
+use Rattle.cells.proofs.ConstantLaws.{range-failed, range-in, range-out}
 use borrow.Author.Needs.{needs}
 use Rattle.cells.proofs.amount_at.Statement.{statement}
 use Rattle.cells.proofs.amount_at.Tie as tie

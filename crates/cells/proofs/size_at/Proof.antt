@@ -1,5 +1,5 @@
 use borrow.Author.Tests.{le-leb, lt-leb}
-use Rattle.cells.proofs.Laws.{range-failed, range-in, range-out}
+use Rattle.cells.proofs.ConstantLaws.{range-failed, range-in, range-out}
 use borrow.Author.Needs.{needs}
 use Rattle.cells.proofs.size_at.Statement.{statement}
 use Rattle.cells.proofs.size_at.Tie as tie

@@ -1,6 +1,6 @@
 use borrow.Author.Tests.{le-leb, lt-leb}
 use native.Mathlib.Omega.{arith}
-use Rattle.syntax.specs.Declarations.{sizeOf}
+use Rattle.grammar.specs.Declarations.{sizeOf}
 use borrow.Author.Needs.{needs}
 use Rattle.cells.proofs.size_of.Statement.{statement}
 use Rattle.cells.proofs.size_of.Tie as tie

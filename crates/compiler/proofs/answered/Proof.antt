@@ -1,5 +1,5 @@
 use borrow.Author.Needs.{needs}
-use Rattle.compiler.specs.Passes.{answeredBy}
+use Rattle.compiler.specs.Readings.{answeredBy}
 use Rattle.compiler.proofs.answered.Statement.{statement}
 use Rattle.compiler.proofs.answered.Tie as tie
 

@@ -1,12 +1,11 @@
--- `compile` meets its contract. Assumes nothing.
 use mathlib.Core.Path.{ap, _∙_}
 use lib.ListN.{replicate}
 use borrow.Author.Needs.{needs}
 use Rattle.compiler.proofs.compile.Statement.{statement}
 use Rattle.compiler.proofs.compile.Tie as tie
 
-judged-requires : tie.Need-judged-requires
-judged-requires c κs = search needs
+check-and-compile-requires : tie.Need-check-and-compile-requires
+check-and-compile-requires c κs = search needs
 
 clear-requires : tie.Need-clear-requires
 clear-requires c κs = search needs
@@ -20,8 +19,12 @@ same-length-2 c = search needs
 returns : tie.Need-returns
 returns c =
     let done = c .before .before .before .before .before .before .before .before in
-    (done .judged .ensures .0, done .judged .ensures .1, c .before .before .clear .ensures ∙ ap (λ n. replicate n 0) (c .before .before .before .before .before .scratch .given))
+    record {
+      answered = done .check-and-compile .ensures .0;
+      laid = done .check-and-compile .ensures .1;
+      cleared = c .before .before .clear .ensures ∙ ap (λ n. replicate n 0) (c .before .before .before .before .before .scratch .given);
+    }
 
 pub compile-spec : {M : Type 1} → statement M
 compile-spec =
-    tie.close (tie.spec judged-requires clear-requires same-length same-length-2 returns)
+    tie.close (tie.spec check-and-compile-requires clear-requires same-length same-length-2 returns)

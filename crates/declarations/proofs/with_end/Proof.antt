@@ -1,6 +1,5 @@
--- `with_end` meets its contract. Assumes nothing.
 use borrow.Author.Tests.{lt-ltb, le-ltb}
-use Rattle.declarations.specs.States.{withEnd}
+use Rattle.declarations.specs.Allocations.{withEnd}
 use borrow.Author.Needs.{needs}
 use Rattle.declarations.proofs.with_end.Statement.{statement}
 use Rattle.declarations.proofs.with_end.Tie as tie

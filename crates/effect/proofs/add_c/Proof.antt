@@ -1,4 +1,3 @@
--- `effect::add_c` meets its contract. Assumes nothing.
 use borrow.Author.Needs.{needs}
 use Rattle.effect.proofs.add_c.Statement.{statement}
 use Rattle.effect.proofs.add_c.Tie as tie

@@ -1,4 +1,3 @@
--- `effect::shifted` meets its contract. Assumes nothing.
 use borrow.Author.Needs.{needs}
 use Rattle.effect.proofs.shifted.Statement.{statement}
 use Rattle.effect.proofs.shifted.Tie as tie

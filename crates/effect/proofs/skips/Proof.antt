@@ -1,4 +1,4 @@
--- `effect::skips` meets its contract: each arm is the case of the definition for its name. Assumes nothing.
+-- Each arm is the case of the definition for its name.
 use borrow.Author.Tests.{ne-eqb}
 use mathlib.Core.Path.{ap}
 use mathlib.Core.Bool.{not}

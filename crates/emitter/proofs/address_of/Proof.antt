@@ -1,8 +1,7 @@
--- `emitter::address_of` meets its contract, case by case. Assumes nothing.
 use mathlib.Core.Path.{_∙_}
 use Rattle.symbols.specs.Trees.{treeOperand}
-use Rattle.emission.specs.Map.{addressOf}
-use Rattle.emitter.proofs.Words.{named-same}
+use Rattle.layout.specs.Map.{addressOf}
+use Rattle.emitter.proofs.EmittedWords.{named-same}
 use borrow.Author.Needs.{needs}
 use Rattle.emitter.proofs.address_of.Statement.{statement}
 use Rattle.emitter.proofs.address_of.Tie as tie

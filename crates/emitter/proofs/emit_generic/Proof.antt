@@ -1,4 +1,3 @@
--- `emitter::emit_generic` meets its contract. Assumes nothing.
 use borrow.Author.Needs.{needs}
 use Rattle.emitter.proofs.emit_generic.Statement.{statement}
 use Rattle.emitter.proofs.emit_generic.Tie as tie

@@ -1,4 +1,3 @@
--- `emitter::emit_jump` meets its contract. Assumes nothing.
 use borrow.Author.Needs.{needs}
 use Rattle.emitter.proofs.emit_jump.Statement.{statement}
 use Rattle.emitter.proofs.emit_jump.Tie as tie

@@ -1,7 +1,7 @@
--- `emitter::emit_memory` meets its contract. Assumes nothing.
 use mathlib.Core.Path.{ap, _∙_}
-use Rattle.emitter.specs.Emitted.{emitAll, pooledAll}
-use Rattle.emitter.proofs.Words.{memory-word, memory-literals}
+use Rattle.layout.specs.Emission.{emitAll}
+use Rattle.emitter.specs.Emitted.{pooledAll}
+use Rattle.emitter.proofs.EmittedWords.{memory-word, memory-literals}
 use borrow.Author.Needs.{needs}
 use Rattle.emitter.proofs.emit_memory.Statement.{statement}
 use Rattle.emitter.proofs.emit_memory.Tie as tie
@@ -24,8 +24,8 @@ same-length c = search needs
 returns : tie.Need-returns
 unfolding emitAll
 returns c =
-    let w = c .before .before .before .before .before .before in
     let a = c .before .before .before .before .before in
+    let w = a .before in
     let word = c .before .before .emit-word .ensures in
     let pool = w .with-operand .ensures in
     record {

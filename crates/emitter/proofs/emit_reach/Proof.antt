@@ -1,6 +1,6 @@
 use Rattle.symbols.specs.Trees.{treeSubscript, treeCell}
-use Rattle.syntax.specs.Emission.{subscriptWords, reachWords}
-use Rattle.emitter.proofs.Words.{emits-none}
+use Rattle.layout.specs.Words.{subscriptWords, reachWords}
+use Rattle.emitter.proofs.EmittedWords.{emits-none}
 use borrow.Author.Needs.{needs}
 use Rattle.emitter.proofs.emit_reach.Statement.{statement}
 use Rattle.emitter.proofs.emit_reach.Tie as tie
@@ -33,7 +33,10 @@ same-length c = search needs
 
 returns-3 : tie.Need-returns-3
 unfolding treeCell treeSubscript reachWords subscriptWords
-returns-3 c = rw (c .before .before .before .before .before .before .before .before .cell .given .1, c .before .before .before .before .before .subscript .given .1) (c .before .before .emit-memory .ensures)
+returns-3 c =
+    let at-subscript = c .before .before .before .before .before in
+    let at-cell = at-subscript .before .before .before in
+    rw (at-cell .cell .given .1, at-subscript .subscript .given .1) (c .before .before .emit-memory .ensures)
 
 pub emit-reach-spec : {M : Type 1} → statement M
 emit-reach-spec =

@@ -1,4 +1,3 @@
--- `emitter::emit_return` meets its contract. Assumes nothing.
 use borrow.Author.Needs.{needs}
 use Rattle.emitter.proofs.emit_return.Statement.{statement}
 use Rattle.emitter.proofs.emit_return.Tie as tie

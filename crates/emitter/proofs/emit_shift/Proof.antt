@@ -1,4 +1,3 @@
--- `emitter::emit_shift` meets its contract. Assumes nothing.
 use borrow.Author.Needs.{needs}
 use Rattle.emitter.proofs.emit_shift.Statement.{statement}
 use Rattle.emitter.proofs.emit_shift.Tie as tie

@@ -1,4 +1,3 @@
--- `emitter::emit_through` meets its contract. Assumes nothing.
 use borrow.Author.Needs.{needs}
 use Rattle.emitter.proofs.emit_through.Statement.{statement}
 use Rattle.emitter.proofs.emit_through.Tie as tie

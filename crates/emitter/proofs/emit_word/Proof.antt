@@ -1,6 +1,5 @@
--- `emitter::emit_word` meets its contract. Assumes nothing.
 use mathlib.Core.Path.{refl}
-use Rattle.emitter.specs.Emitted.{withWord}
+use Rattle.layout.specs.Emission.{withWord}
 use borrow.Author.Needs.{needs}
 use Rattle.emitter.proofs.emit_word.Statement.{statement}
 use Rattle.emitter.proofs.emit_word.Tie as tie

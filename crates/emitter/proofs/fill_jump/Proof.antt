@@ -1,4 +1,3 @@
--- `emitter::fill_jump` meets its contract. Assumes nothing.
 use borrow.Author.Needs.{needs}
 use Rattle.emitter.proofs.fill_jump.Statement.{statement}
 use Rattle.emitter.proofs.fill_jump.Tie as tie

@@ -1,4 +1,3 @@
--- `emitter::generic_word` meets its contract. Assumes nothing.
 use mathlib.Core.Path.{sym}
 use lib.ListN.{List·getD-eq-default}
 use Rattle.instruction.specs.Table.{tableOf}

@@ -1,6 +1,5 @@
--- `emitter::id_address` meets its contract, case by case. Assumes nothing.
 use Rattle.symbols.specs.Trees.{treeId, treeOperand}
-use Rattle.emission.specs.Map.{addressOf}
+use Rattle.layout.specs.Map.{addressOf}
 use borrow.Author.Needs.{needs}
 use Rattle.emitter.proofs.id_address.Statement.{statement}
 use Rattle.emitter.proofs.id_address.Tie as tie

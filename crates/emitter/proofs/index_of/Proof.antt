@@ -1,11 +1,11 @@
--- `emitter::index_of` meets its contract. The invariant: the place in the whole is `i` more than the place in what is left from `i` on. Assumes nothing.
+-- The invariant: the place in the whole is `i` more than the place in what is left from `i` on.
 use mathlib.Core.Path.{_≡_}
 use Prim.Native.Nat.{_+_, _-_, _≤_}
 use native.Mathlib.Omega.{arith}
 use borrow.Author.Needs.{needs}
 use lib.ListN.{take, drop}
-use Rattle.syntax.specs.Pool.{indexOf}
-use Rattle.emitter.proofs.Pools.{found, passed, missed}
+use Rattle.layout.specs.Pool.{indexOf}
+use Rattle.emitter.proofs.EmittedPools.{found, passed, missed}
 use Rattle.emitter.proofs.index_of.Statement.{statement}
 use Rattle.emitter.proofs.index_of.Tie as tie
 

@@ -1,7 +1,6 @@
--- `emitter::next_address` meets its contract. Assumes nothing.
 use native.Mathlib.Numerals.{add-one}
 use borrow.Author.Tests.{lt-ltb, le-ltb}
-use Rattle.emitter.specs.Emitted.{nextAddress}
+use Rattle.layout.specs.Emission.{nextAddress}
 use borrow.Author.Needs.{needs}
 use Rattle.emitter.proofs.next_address.Statement.{statement}
 use Rattle.emitter.proofs.next_address.Tie as tie

@@ -1,5 +1,4 @@
--- `emitter::reference` meets its contract. Assumes nothing.
-use Rattle.emission.specs.Map.{reference}
+use Rattle.layout.specs.Map.{reference}
 use borrow.Author.Needs.{needs}
 use Rattle.emitter.proofs.reference.Statement.{statement}
 use Rattle.emitter.proofs.reference.Tie as tie

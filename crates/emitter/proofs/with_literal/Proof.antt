@@ -1,10 +1,10 @@
--- `emitter::with_literal` meets its contract. Assumes nothing.
 use mathlib.Core.Path.{_≡_, sym, _∙_}
 use native.Mathlib.Omega.{arith}
 use borrow.Author.Tests.{lt-ltb, le-ltb}
 use lib.ListN.{length}
-use Rattle.emitter.specs.Emitted.{withLiterals, pooled, pooledAll}
-use Rattle.emitter.proofs.Pools.{known, new, full, appended}
+use Rattle.layout.specs.Emission.{withLiterals}
+use Rattle.emitter.specs.Emitted.{pooled, pooledAll}
+use Rattle.emitter.proofs.EmittedPools.{known, new, full, appended}
 use borrow.Author.Needs.{needs}
 use Rattle.emitter.proofs.with_literal.Statement.{statement}
 use Rattle.emitter.proofs.with_literal.Tie as tie

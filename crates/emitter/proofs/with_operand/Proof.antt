@@ -1,8 +1,8 @@
--- `emitter::with_operand` meets its contract, case by case. Assumes nothing.
 use Rattle.symbols.specs.Trees.{treeOperand}
-use Rattle.syntax.specs.Pool.{literalOf}
+use Rattle.layout.specs.Pool.{literalOf}
 use mathlib.Core.Path.{refl}
-use Rattle.emitter.specs.Emitted.{withLiterals, pooledAll}
+use Rattle.layout.specs.Emission.{withLiterals}
+use Rattle.emitter.specs.Emitted.{pooledAll}
 use borrow.Author.Needs.{needs}
 use Rattle.emitter.proofs.with_operand.Statement.{statement}
 use Rattle.emitter.proofs.with_operand.Tie as tie

@@ -1,17 +1,17 @@
 -- The proof of the cycle of calls of expressions and conditions. An expression with `left` levels calls its forms with one less, and they call expressions with the same.
--- Assumes nothing.
+--
 use mathlib.Core.Path.{refl, sym, ap, _∙_}
 use native.Mathlib.Omega.{arith}
 use borrow.Author.Needs.{needs}
 use Rattle.expressions.proofs.Leaves.{hole-later}
-use Rattle.syntax.specs.Expressions.{parseBracketed}
+use Rattle.grammar.specs.Expressions.{parseBracketed}
 use Rattle.emitter.specs.Emitted.{emittedBy}
 use Rattle.expressions.specs.Chains.{elseExpr}
-use Rattle.cells.specs.Reads.Reads.{read, fails}
+use Rattle.parser.specs.Reads.Reads.{read, fails}
 use Rattle.emitter.proofs.Lays.{kept-here}
-use Rattle.cells.proofs.Laws.{then-got, part-read, got-read, got-failed, got-with}
-use Rattle.cells.proofs.Reading.{came, failed-as, kept-as, pass, missing, reads-on}
-use Rattle.expressions.proofs.Comparisons.{none-left, bare-read, value-failed, value-compared}
+use Rattle.parser.proofs.Answers.{then-got, part-read, got-read, got-failed, got-with}
+use Rattle.parser.proofs.ReadLaws.{came, failed-as, kept-as, pass, missing, reads-on}
+use Rattle.expressions.proofs.ComparingLaws.{none-left, bare-read, value-failed, value-compared}
 use Rattle.expressions.proofs.Forms.{bracketed-closed, called-alone, call-failed, called-with, begins-cell, begins-zero, begins-bracket, begins-call, begins-accumulator, unaries-upto, start-failed, term-failed, chained, test-failed, then-missing, first-failed, chosen, from-state, deep-part, is-choice, is-chain}
 use Prim.Native.Nat.{_*_, _+_}
 use Prim.Native.Nat.{ℕ, _<_}
@@ -41,9 +41,9 @@ use Rattle.expressions.proofs.+alternative+bracketed+call+chain+choice+
 use Rattle.expressions.proofs.term.Reads as term
 use Rattle.expressions.proofs.term.Kinds as term-kinds
 use Rattle.expressions.proofs.+alternative+bracketed+call+chain+choice+condition+expression+term.Lts-term as term-lts
-use Rattle.cells.proofs.expect.Reads as expect-reads
-use Rattle.cells.proofs.openings.term_start_at.Reads as term-start-at-reads
-use Rattle.cells.proofs.openings.too_deep_at.Reads as too-deep-at-reads
+use Rattle.parser.proofs.expect.Reads as expect-reads
+use Rattle.cells.proofs.starts.term_start_at.Reads as term-start-at-reads
+use Rattle.cells.proofs.starts.too_deep_at.Reads as too-deep-at-reads
 use Rattle.emitter.proofs.emit_generic.Reads as emit-generic-reads
 use Rattle.emitter.proofs.emit_through.Reads as emit-through-reads
 use Rattle.emitter.proofs.fill_jump.Reads as fill-jump-reads
@@ -55,7 +55,7 @@ use Rattle.expressions.proofs.relation.emit_hole.Reads as emit-hole-rea
 use Rattle.expressions.proofs.relation.emit_test.Reads as emit-test-reads
 use Rattle.expressions.proofs.unaries.emit_unaries.Reads as emit-unaries-reads
 use Rattle.expressions.proofs.unaries.unaries_next.Reads as unaries-next-reads
-use Rattle.expressions.proofs.words.bare.Reads as bare-reads
+use Rattle.expressions.proofs.vocabulary.bare.Reads as bare-reads
 use Rattle.source.proofs.token_at.Reads as token-at-reads
 use Rattle.expressions.proofs.+alternative+bracketed+call+chain+choice+condition+expression+term.{
   statement,
@@ -238,7 +238,10 @@ bracketed-same-length-2 : (t : ℕ) → bracketed-lts.Need-same-length-2 (bracke
 bracketed-same-length-2 t c = search needs
 
 bracketed-returns-2 : (t : ℕ) → bracketed-lts.Need-returns-2 (bracketed-calls t) (bracketed-at t) bracketed.Post
-bracketed-returns-2 t c = bracketed-closed _ _ _ _ (c .before .before .before .before .before .before .before .expression .ensures) (c .before .before .before .part .given .1) (c .expect .ensures)
+bracketed-returns-2 t c =
+    let at-part = c .before .before .before in
+    let at-expression = at-part .before .before .before .before in
+    bracketed-closed _ _ _ _ (at-expression .expression .ensures) (at-part .part .given .1) (c .expect .ensures)
 
 call-token-at-requires : (t : ℕ) → call-lts.Need-token-at-requires (call-calls t) (call-at t) call.Post
 call-token-at-requires t c κs = search needs
@@ -265,7 +268,11 @@ call-same-length-2 : (t : ℕ) → call-lts.Need-same-length-2 (call-calls t) (c
 call-same-length-2 t c = search needs
 
 call-returns-2 : (t : ℕ) → call-lts.Need-returns-2 (call-calls t) (call-at t) call.Post
-call-returns-2 t c = call-failed _ _ _ _ _ _ (c .before .before .before .before .before .before .before .before .token-at .ensures) (c .before .before .before .before .before .before .if1 .left) (c .before .before .before .before .bracketed .ensures) (c .enum-told .given .1)
+call-returns-2 t c =
+    let at-bracketed = c .before .before .before .before in
+    let at-if1 = at-bracketed .before .before in
+    let at-token-at = at-if1 .before .before in
+    call-failed _ _ _ _ _ _ (at-token-at .token-at .ensures) (at-if1 .if1 .left) (at-bracketed .bracketed .ensures) (c .enum-told .given .1)
 
 call-emit-through-requires-2 : (t : ℕ) → call-lts.Need-emit-through-requires-2 (call-calls t) (call-at t) call.Post
 call-emit-through-requires-2 t c κs = search needs
@@ -274,7 +281,13 @@ call-same-length-3 : (t : ℕ) → call-lts.Need-same-length-3 (call-calls t) (c
 call-same-length-3 t c = search needs
 
 call-returns-3 : (t : ℕ) → call-lts.Need-returns-3 (call-calls t) (call-at t) call.Post
-call-returns-3 t c = called-with _ _ _ _ _ _ (c .before .before .before .before .before .before .before .before .before .before .before .before .before .before .token-at .ensures) (c .before .before .before .before .before .before .before .before .before .before .before .before .if1 .left) (c .before .before .before .before .before .before .before .before .before .before .bracketed .ensures) (c .before .before .before .before .before .before .part .given .1) (c .before .before .emit-through2 .ensures .emitted)
+call-returns-3 t c =
+    let at-emit-through2 = c .before .before in
+    let at-part = at-emit-through2 .before .before .before .before in
+    let at-bracketed = at-part .before .before .before .before in
+    let at-if1 = at-bracketed .before .before in
+    let at-token-at = at-if1 .before .before in
+    called-with _ _ _ _ _ _ (at-token-at .token-at .ensures) (at-if1 .if1 .left) (at-bracketed .bracketed .ensures) (at-part .part .given .1) (at-emit-through2 .emit-through2 .ensures .emitted)
 
 chain-unaries-next-requires : (t : ℕ) → chain-lts.Need-unaries-next-requires (chain-calls t) (chain-at t) chain.Post
 chain-unaries-next-requires t c κs = search needs
@@ -292,7 +305,9 @@ chain-returns : (t : ℕ) → chain-lts.Need-returns (chain-calls t) (chain-at t
 chain-returns t c = start-failed _ _ _ _ _ (unaries-upto _ _ _ _ (c .before .before .before .unaries-next .ensures)) (got-failed _ (got-with _ (c .before .before .term-start-at .ensures)) (c .enum-told .given .1)) (c .enum-told .given .1)
 
 chain-term-requires : (t : ℕ) → chain-lts.Need-term-requires (chain-calls t) (chain-at t) chain.Post
-chain-term-requires t c κs = (omega (arith, c .before .before .before .before .before .before .before .before .before .pre .0), tt)
+chain-term-requires t c κs =
+    let entry = c .before .before .before .before .before .before .before .before .before in
+    (omega (arith, entry .pre .0), tt)
 
 chain-enum-known-one-part : (t : ℕ) → chain-lts.Need-enum-known-one-part (chain-calls t) (chain-at t) chain.Post
 chain-enum-known-one-part t c = search needs
@@ -304,7 +319,12 @@ chain-same-length : (t : ℕ) → chain-lts.Need-same-length (chain-calls t) (ch
 chain-same-length t c = search needs
 
 chain-returns-2 : (t : ℕ) → chain-lts.Need-returns-2 (chain-calls t) (chain-at t) chain.Post
-chain-returns-2 t c = term-failed _ _ _ _ _ (unaries-upto _ _ _ _ (c .before .before .before .before .before .before .before .before .before .before .unaries-next .ensures)) (got-read (got-with _ (c .before .before .before .before .before .before .before .before .before .term-start-at .ensures)) (c .before .before .before .before .before .before .before .part .given .1)) (c .before .before .before .before .term .ensures) (c .enum-told2 .given .1)
+chain-returns-2 t c =
+    let at-term = c .before .before .before .before in
+    let at-part = at-term .before .before .before in
+    let at-term-start-at = at-part .before .before in
+    let at-unaries-next = at-term-start-at .before in
+    term-failed _ _ _ _ _ (unaries-upto _ _ _ _ (at-unaries-next .unaries-next .ensures)) (got-read (got-with _ (at-term-start-at .term-start-at .ensures)) (at-part .part .given .1)) (at-term .term .ensures) (c .enum-told2 .given .1)
 
 chain-emit-unaries-requires : (t : ℕ) → chain-lts.Need-emit-unaries-requires (chain-calls t) (chain-at t) chain.Post
 chain-emit-unaries-requires t c κs = search needs
@@ -316,7 +336,15 @@ chain-same-length-2 : (t : ℕ) → chain-lts.Need-same-length-2 (chain-calls t)
 chain-same-length-2 t c = search needs
 
 chain-returns-3 : (t : ℕ) → chain-lts.Need-returns-3 (chain-calls t) (chain-at t) chain.Post
-chain-returns-3 t c = chained _ _ _ _ _ (unaries-upto _ _ _ _ (c .before .before .before .before .before .before .before .before .before .before .before .before .before .before .before .before .before .before .before .before .unaries-next .ensures)) (got-read (got-with _ (c .before .before .before .before .before .before .before .before .before .before .before .before .before .before .before .before .before .before .before .term-start-at .ensures)) (c .before .before .before .before .before .before .before .before .before .before .before .before .before .before .before .before .before .part .given .1)) (c .before .before .before .before .before .before .before .before .before .before .before .before .before .before .term .ensures) (c .before .before .before .before .before .before .before .before .before .before .one-part .given .1) (c .before .before .before .before .before .before .emit-unaries .ensures) (c .before .before .operations .ensures)
+chain-returns-3 t c =
+    let at-operations = c .before .before in
+    let at-emit-unaries = at-operations .before .before .before .before in
+    let at-one-part = at-emit-unaries .before .before .before .before in
+    let at-term = at-one-part .before .before .before .before in
+    let at-part = at-term .before .before .before in
+    let at-term-start-at = at-part .before .before in
+    let at-unaries-next = at-term-start-at .before in
+    chained _ _ _ _ _ (unaries-upto _ _ _ _ (at-unaries-next .unaries-next .ensures)) (got-read (got-with _ (at-term-start-at .term-start-at .ensures)) (at-part .part .given .1)) (at-term .term .ensures) (at-one-part .one-part .given .1) (at-emit-unaries .emit-unaries .ensures) (at-operations .operations .ensures)
 
 choice-condition-requires : (t : ℕ) → choice-lts.Need-condition-requires (choice-calls t) (choice-at t) choice.Post
 choice-condition-requires t c κs = (omega (arith, c .before .before .before .before .pre .0), tt)
@@ -346,10 +374,16 @@ choice-same-length-2 : (t : ℕ) → choice-lts.Need-same-length-2 (choice-calls
 choice-same-length-2 t c = search needs
 
 choice-returns-2 : (t : ℕ) → choice-lts.Need-returns-2 (choice-calls t) (choice-at t) choice.Post
-choice-returns-2 t c = then-missing _ _ _ _ (c .before .before .before .before .before .before .before .before .before .condition .ensures) (c .before .before .before .before .part .given .1) (c .before .before .expect .ensures) (c .enum-told2 .given .1)
+choice-returns-2 t c =
+    let at-expect = c .before .before in
+    let at-part = at-expect .before .before in
+    let at-condition = at-part .before .before .before .before .before in
+    then-missing _ _ _ _ (at-condition .condition .ensures) (at-part .part .given .1) (at-expect .expect .ensures) (c .enum-told2 .given .1)
 
 choice-expression-requires : (t : ℕ) → choice-lts.Need-expression-requires (choice-calls t) (choice-at t) choice.Post
-choice-expression-requires t c κs = (omega (arith, c .before .before .before .before .before .before .before .before .before .before .before .before .before .before .before .before .pre .0), tt)
+choice-expression-requires t c κs =
+    let entry = c .before .before .before .before .before .before .before .before .before .before .before .before .before .before .before .before in
+    (omega (arith, entry .pre .0), tt)
 
 choice-enum-known-one-part : (t : ℕ) → choice-lts.Need-enum-known-one-part (choice-calls t) (choice-at t) choice.Post
 choice-enum-known-one-part t c = search needs
@@ -361,7 +395,13 @@ choice-same-length-3 : (t : ℕ) → choice-lts.Need-same-length-3 (choice-calls
 choice-same-length-3 t c = search needs
 
 choice-returns-3 : (t : ℕ) → choice-lts.Need-returns-3 (choice-calls t) (choice-at t) choice.Post
-choice-returns-3 t c = first-failed _ _ _ _ (c .before .before .before .before .before .before .before .before .before .before .before .before .before .before .before .before .condition .ensures) (c .before .before .before .before .before .before .before .before .before .before .before .part .given .1) (c .before .before .before .before .before .before .before .before .before .expect .ensures) (c .before .before .before .before .before .before .before .then .given .1) (c .before .before .before .before .expression .ensures) (c .enum-told3 .given .1)
+choice-returns-3 t c =
+    let at-expression = c .before .before .before .before in
+    let at-then = at-expression .before .before .before in
+    let at-expect = at-then .before .before in
+    let at-part = at-expect .before .before in
+    let at-condition = at-part .before .before .before .before .before in
+    first-failed _ _ _ _ (at-condition .condition .ensures) (at-part .part .given .1) (at-expect .expect .ensures) (at-then .then .given .1) (at-expression .expression .ensures) (c .enum-told3 .given .1)
 
 choice-emit-hole-requires : (t : ℕ) → choice-lts.Need-emit-hole-requires (choice-calls t) (choice-at t) choice.Post
 choice-emit-hole-requires t c κs = search needs
@@ -370,15 +410,31 @@ choice-fill-jump-requires : (t : ℕ) → choice-lts.Need-fill-jump-requires (ch
 choice-fill-jump-requires t c κs = search needs
 
 choice-alternative-requires : (t : ℕ) → choice-lts.Need-alternative-requires (choice-calls t) (choice-at t) choice.Post
-choice-alternative-requires t c κs = (omega (arith, c .before .before .before .before .before .before .before .before .before .before .before .before .before .before .before .before .before .before .before .before .before .before .before .before .before .before .before .before .before .before .before .before .before .pre .0), tt)
+choice-alternative-requires t c κs =
+    let entry = c .before .before .before .before .before .before .before .before .before .before .before .before .before .before .before .before .before .before .before .before .before .before .before .before .before .before .before .before .before .before .before .before .before in
+    (omega (arith, entry .pre .0), tt)
 
 choice-same-length-4 : (t : ℕ) → choice-lts.Need-same-length-4 (choice-calls t) (choice-at t) choice.Post
-choice-same-length-4 t c = c .before .image5 .given ∙ c .before .before .before .before .before .image4 .given ∙ c .before .before .before .before .before .before .before .before .before .before .image3 .given ∙ c .before .before .before .before .before .before .before .before .before .before .before .before .before .before .before .before .before .before .image2 .given ∙ c .before .before .before .before .before .before .before .before .before .before .before .before .before .before .before .before .before .before .before .before .before .before .before .before .before .before .before .before .before .before .image .given
+choice-same-length-4 t c =
+    let at-image4 = c .before .before .before .before .before in
+    let at-image3 = at-image4 .before .before .before .before .before in
+    let at-image2 = at-image3 .before .before .before .before .before .before .before .before in
+    let at-image = at-image2 .before .before .before .before .before .before .before .before .before .before .before .before in
+    c .before .image5 .given ∙ at-image4 .image4 .given ∙ at-image3 .image3 .given ∙ at-image2 .image2 .given ∙ at-image .image .given
 
 choice-returns-4 : (t : ℕ) → choice-lts.Need-returns-4 (choice-calls t) (choice-at t) choice.Post
 choice-returns-4 t c =
-    chosen _ _ _ _ (c .before .before .before .before .before .before .before .before .before .before .before .before .before .before .before .before .before .before .before .before .before .before .before .before .before .before .before .before .before .before .before .condition .ensures) (c .before .before .before .before .before .before .before .before .before .before .before .before .before .before .before .before .before .before .before .before .before .before .before .before .before .before .part .given .1) (c .before .before .before .before .before .before .before .before .before .before .before .before .before .before .before .before .before .before .before .before .before .before .before .before .expect .ensures) (c .before .before .before .before .before .before .before .before .before .before .before .before .before .before .before .before .before .before .before .before .before .before .then .given .1) (c .before .before .before .before .before .before .before .before .before .before .before .before .before .before .before .before .before .before .before .expression .ensures) (c .before .before .before .before .before .before .before .before .before .before .before .before .before .before .before .one-part .given .1) (hole-later (c .before .before .before .before .before .before .before .before .before .before .before .emit-hole .ensures))
-    (from-state (ap (emittedBy (c .before .before .before .before .before .before .before .before .before .before .before .emit-hole .result .output)) (c .before .before .before .before .before .before .fill-jump .ensures)) (c .before .before .alternative .ensures))
+    let at-alternative = c .before .before in
+    let at-fill-jump = at-alternative .before .before .before .before in
+    let at-emit-hole = at-fill-jump .before .before .before .before .before in
+    let at-one-part = at-emit-hole .before .before .before .before in
+    let at-expression = at-one-part .before .before .before .before in
+    let at-then = at-expression .before .before .before in
+    let at-expect = at-then .before .before in
+    let at-part = at-expect .before .before in
+    let at-condition = at-part .before .before .before .before .before in
+    chosen _ _ _ _ (at-condition .condition .ensures) (at-part .part .given .1) (at-expect .expect .ensures) (at-then .then .given .1) (at-expression .expression .ensures) (at-one-part .one-part .given .1) (hole-later (at-emit-hole .emit-hole .ensures))
+    (from-state (ap (emittedBy (at-emit-hole .emit-hole .result .output)) (at-fill-jump .fill-jump .ensures)) (at-alternative .alternative .ensures))
 
 condition-token-at-requires : (t : ℕ) → condition-lts.Need-token-at-requires (condition-calls t) (condition-at t) condition.Post
 condition-token-at-requires t c κs = search needs
@@ -399,7 +455,12 @@ condition-same-length : (t : ℕ) → condition-lts.Need-same-length (condition-
 condition-same-length t c = search needs
 
 condition-returns : (t : ℕ) → condition-lts.Need-returns (condition-calls t) (condition-at t) condition.Post
-condition-returns t c = bare-read _ _ _ _ _ (c .before .before .before .before .before .before .before .token-at .ensures) _ (c .before .before .before .before .before .before .bare .ensures) (c .before .before .before .before .before .if1 .taken) (c .before .before .before .emit-test .ensures)
+condition-returns t c =
+    let at-emit-test = c .before .before .before in
+    let at-if1 = at-emit-test .before .before in
+    let at-bare = at-if1 .before in
+    let at-token-at = at-bare .before in
+    bare-read _ _ _ _ _ (at-token-at .token-at .ensures) _ (at-bare .bare .ensures) (at-if1 .if1 .taken) (at-emit-test .emit-test .ensures)
 
 condition-expression-requires : (t : ℕ) → condition-lts.Need-expression-requires (condition-calls t) (condition-at t) condition.Post
 condition-expression-requires t c κs = (omega (arith, c .before .before .before .before .before .before .before .pre .0), tt)
@@ -414,7 +475,12 @@ condition-same-length-2 : (t : ℕ) → condition-lts.Need-same-length-2 (condit
 condition-same-length-2 t c = search needs
 
 condition-returns-2 : (t : ℕ) → condition-lts.Need-returns-2 (condition-calls t) (condition-at t) condition.Post
-condition-returns-2 t c = value-failed _ _ _ _ _ (c .before .before .before .before .before .before .before .before .before .token-at .ensures) (none-left _ (c .before .before .before .before .before .before .before .if1 .left) ∙ c .before .before .before .before .before .before .before .before .bare .ensures) (c .before .before .before .before .before .expression .ensures) (c .enum-told .given .1)
+condition-returns-2 t c =
+    let at-expression = c .before .before .before .before .before in
+    let at-if1 = at-expression .before .before in
+    let at-bare = at-if1 .before in
+    let at-token-at = at-bare .before in
+    value-failed _ _ _ _ _ (at-token-at .token-at .ensures) (none-left _ (at-if1 .if1 .left) ∙ at-bare .bare .ensures) (at-expression .expression .ensures) (c .enum-told .given .1)
 
 condition-comparison-requires : (t : ℕ) → condition-lts.Need-comparison-requires (condition-calls t) (condition-at t) condition.Post
 condition-comparison-requires t c κs = search needs
@@ -423,7 +489,14 @@ condition-same-length-3 : (t : ℕ) → condition-lts.Need-same-length-3 (condit
 condition-same-length-3 t c = search needs
 
 condition-returns-3 : (t : ℕ) → condition-lts.Need-returns-3 (condition-calls t) (condition-at t) condition.Post
-condition-returns-3 t c = value-compared _ _ _ _ _ (c .before .before .before .before .before .before .before .before .before .before .before .before .before .before .token-at .ensures) (none-left _ (c .before .before .before .before .before .before .before .before .before .before .before .before .if1 .left) ∙ c .before .before .before .before .before .before .before .before .before .before .before .before .before .bare .ensures) (c .before .before .before .before .before .before .before .before .before .before .expression .ensures) (c .before .before .before .before .before .part .given .1) (c .before .before .comparison .ensures)
+condition-returns-3 t c =
+    let at-comparison = c .before .before in
+    let at-part = at-comparison .before .before .before in
+    let at-expression = at-part .before .before .before .before .before in
+    let at-if1 = at-expression .before .before in
+    let at-bare = at-if1 .before in
+    let at-token-at = at-bare .before in
+    value-compared _ _ _ _ _ (at-token-at .token-at .ensures) (none-left _ (at-if1 .if1 .left) ∙ at-bare .bare .ensures) (at-expression .expression .ensures) (at-part .part .given .1) (at-comparison .comparison .ensures)
 
 expression-too-deep-at-requires : (t : ℕ) → expression-lts.Need-too-deep-at-requires (expression-calls t) (expression-at t) expression.Post
 expression-too-deep-at-requires t c κs = search needs
@@ -438,25 +511,39 @@ expression-sub-choice : (t : ℕ) → expression-lts.Need-sub-choice (expression
 expression-sub-choice t c = search needs
 
 expression-choice-requires : (t : ℕ) → expression-lts.Need-choice-requires (expression-calls t) (expression-at t) expression.Post
-expression-choice-requires t c κs = (omega (arith, c .before .before .before .before .before .before .before .before .pre .0, c .before .before .before .before .if1 .left), tt)
+expression-choice-requires t c κs =
+    let at-if1 = c .before .before .before .before in
+    let entry = at-if1 .before .before .before .before in
+    (omega (arith, entry .pre .0, at-if1 .if1 .left), tt)
 
 expression-same-length : (t : ℕ) → expression-lts.Need-same-length (expression-calls t) (expression-at t) expression.Post
 expression-same-length t c = search needs
 
 expression-returns-2 : (t : ℕ) → expression-lts.Need-returns-2 (expression-calls t) (expression-at t) expression.Post
-expression-returns-2 t c = rw (is-choice _ _ _ _ (c .before .before .before .before .before .before .token-at .ensures) _ (c .before .before .before .before .before .before .before .if1 .left) (c .before .before .before .before .if2 .taken)) (c .before .before .choice .ensures)
+expression-returns-2 t c =
+    let at-if2 = c .before .before .before .before in
+    let at-token-at = at-if2 .before .before in
+    let at-if1 = at-token-at .before in
+    rw (is-choice _ _ _ _ (at-token-at .token-at .ensures) _ (at-if1 .if1 .left) (at-if2 .if2 .taken)) (c .before .before .choice .ensures)
 
 expression-sub-chain : (t : ℕ) → expression-lts.Need-sub-chain (expression-calls t) (expression-at t) expression.Post
 expression-sub-chain t c = search needs
 
 expression-chain-requires : (t : ℕ) → expression-lts.Need-chain-requires (expression-calls t) (expression-at t) expression.Post
-expression-chain-requires t c κs = (omega (arith, c .before .before .before .before .before .before .before .before .pre .0, c .before .before .before .before .if1 .left), tt)
+expression-chain-requires t c κs =
+    let at-if1 = c .before .before .before .before in
+    let entry = at-if1 .before .before .before .before in
+    (omega (arith, entry .pre .0, at-if1 .if1 .left), tt)
 
 expression-same-length-2 : (t : ℕ) → expression-lts.Need-same-length-2 (expression-calls t) (expression-at t) expression.Post
 expression-same-length-2 t c = search needs
 
 expression-returns-3 : (t : ℕ) → expression-lts.Need-returns-3 (expression-calls t) (expression-at t) expression.Post
-expression-returns-3 t c = rw (is-chain _ _ _ _ (c .before .before .before .before .before .before .token-at .ensures) _ (c .before .before .before .before .before .before .before .if1 .left) (c .before .before .before .before .if2 .left)) (c .before .before .chain .ensures)
+expression-returns-3 t c =
+    let at-if2 = c .before .before .before .before in
+    let at-token-at = at-if2 .before .before in
+    let at-if1 = at-token-at .before in
+    rw (is-chain _ _ _ _ (at-token-at .token-at .ensures) _ (at-if1 .if1 .left) (at-if2 .if2 .left)) (c .before .before .chain .ensures)
 
 term-enum-known-start : (t : ℕ) → term-lts.Need-enum-known-start (term-calls t) (term-at t) term.Post
 term-enum-known-start t c = search needs

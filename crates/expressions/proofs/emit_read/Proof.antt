@@ -1,8 +1,7 @@
--- `emit_read` meets its contract. Assumes nothing.
 use mathlib.Core.Path.{refl}
 use Rattle.emitter.proofs.Lays.{kept-here, words}
-use Rattle.cells.specs.Reads.Reads.{read, fails}
-use Rattle.cells.proofs.Laws.{got-read, got-failed}
+use Rattle.parser.specs.Reads.Reads.{read, fails}
+use Rattle.parser.proofs.Answers.{got-read, got-failed}
 use borrow.Author.Needs.{needs}
 use Rattle.expressions.proofs.emit_read.Statement.{statement}
 use Rattle.expressions.proofs.emit_read.Tie as tie
@@ -23,7 +22,9 @@ same-length : tie.Need-same-length
 same-length c = search needs
 
 returns-2 : tie.Need-returns-2
-returns-2 c = read (got-read refl (c .before .before .before .before .enum-told .given .1)) (c .before .before .before .before .enum-told .given .1) (rw (c .before .before .emit-cell .ensures .emitted) (words _))
+returns-2 c =
+    let at-enum-told = c .before .before .before .before in
+    read (got-read refl (at-enum-told .enum-told .given .1)) (at-enum-told .enum-told .given .1) (rw (c .before .before .emit-cell .ensures .emitted) (words _))
 
 pub emit-read-spec : {M : Type 1} → statement M
 emit-read-spec =

@@ -1,4 +1,3 @@
--- `instruction::encode_memory` meets its contract. Assumes nothing.
 use Rattle.instruction.specs.Encode.{memoryWord}
 use borrow.Author.Needs.{needs}
 use Rattle.instruction.proofs.encode_memory.Statement.{statement}

@@ -1,4 +1,3 @@
--- `instruction::encode_shift` meets its contract. Assumes nothing.
 use mathlib.Core.Path.{refl}
 use Rattle.instruction.specs.Encode.{shiftWord}
 use borrow.Author.Needs.{needs}

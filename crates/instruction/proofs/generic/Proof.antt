@@ -1,4 +1,4 @@
--- `instruction::generic` meets its contract: at each `return` the tests that led there say which case holds. Assumes nothing.
+-- At each `return` the tests that led there say which case holds.
 use borrow.Author.Tests.{eq-eqb, ne-eqb}
 use Rattle.instruction.specs.Decode.{genericIn}
 use borrow.Author.Needs.{needs}

@@ -1,4 +1,4 @@
--- `instruction::is_shift` meets its contract: at each `return` the tests that led there say which case holds. Assumes nothing.
+-- At each `return` the tests that led there say which case holds.
 use borrow.Author.Tests.{lt-ltb, le-ltb, le-leb, lt-leb}
 use Rattle.instruction.proofs.is_shift.Statement.{statement}
 use Rattle.instruction.proofs.is_shift.Tie as tie

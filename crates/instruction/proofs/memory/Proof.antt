@@ -1,4 +1,4 @@
--- `instruction::memory` meets its contract: at each `return` the tests that led there say which case holds. Assumes nothing.
+-- At each `return` the tests that led there say which case holds.
 use borrow.Author.Tests.{le-leb, lt-leb, eq-eqb, ne-eqb}
 use Rattle.instruction.specs.Decode.{memoryOf}
 use Rattle.instruction.proofs.memory.Statement.{statement}

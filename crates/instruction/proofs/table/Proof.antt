@@ -1,4 +1,3 @@
--- `instruction::table` meets its contract. Assumes nothing.
 use mathlib.Core.Path.{refl}
 use Rattle.instruction.specs.Table.{tableOf}
 use Rattle.instruction.proofs.table.Statement.{statement}

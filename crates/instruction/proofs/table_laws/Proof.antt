@@ -1,4 +1,4 @@
--- `instruction::table_laws` meets its contract, by proofs/Encoding. Assumes nothing.
+-- By proofs/Encoding.
 use Rattle.instruction.proofs.Encoding.{agreement}
 use Rattle.instruction.proofs.table_laws.Statement.{statement}
 use Rattle.instruction.proofs.table_laws.Tie as tie

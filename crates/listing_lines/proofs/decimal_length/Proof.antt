@@ -1,4 +1,4 @@
--- `decimal_length` meets its contract. Assumes nothing.
+-- The invariant: `count` and the digits of `m` are one more than the digits of `n`.
 use mathlib.Core.Path.{_≡_}
 use native.Mathlib.Omega.{arith}
 use Prim.Native.Nat.{suc, _+_, _-_, _≤_}

@@ -1,4 +1,3 @@
--- `lines` meets its contract. Assumes nothing.
 use Rattle.listing_lines.proofs.Laws.{then, whole-accepted, whole-failed}
 use borrow.Author.Needs.{needs}
 use Rattle.listing_lines.proofs.lines.Statement.{statement}
@@ -36,8 +35,13 @@ same-length c = search needs
 
 returns : tie.Need-returns
 returns c =
-    whole-accepted _ (c .before .before .before .before .before .before .before .before .before .before .before .before .before .before .before .before .before .before .before .answer .given .1)
-    (then (c .before .before .before .before .before .before .before .before .before .before .before .before .before .before .before .before .put-result .ensures .0) (then (c .before .before .before .before .before .before .before .before .before .before .before .before .put-counts .ensures .0) (then (c .before .before .before .before .before .before .before .put-words .ensures .0) (c .before .before .put-words2 .ensures .0))))
+    let at-put-words2 = c .before .before in
+    let at-put-words = at-put-words2 .before .before .before .before .before in
+    let at-put-counts = at-put-words .before .before .before .before .before in
+    let at-put-result = at-put-counts .before .before .before .before in
+    let at-answer = at-put-result .before .before .before in
+    whole-accepted _ (at-answer .answer .given .1)
+    (then (at-put-result .put-result .ensures .0) (then (at-put-counts .put-counts .ensures .0) (then (at-put-words .put-words .ensures .0) (at-put-words2 .put-words2 .ensures .0))))
 
 same-length-2 : tie.Need-same-length-2
 same-length-2 c = search needs

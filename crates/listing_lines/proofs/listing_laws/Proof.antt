@@ -1,4 +1,4 @@
--- `listing_lines::listing_laws` meets its contract, by proofs/Laws. Assumes nothing.
+-- By proofs/Laws.
 use Rattle.listing_lines.proofs.Laws.{listing-laws}
 use Rattle.listing_lines.proofs.listing_laws.Statement.{statement}
 use Rattle.listing_lines.proofs.listing_laws.Tie as tie

@@ -1,4 +1,3 @@
--- `put_counts` meets its contract. Assumes nothing.
 use native.Mathlib.Omega.{arith}
 use Rattle.listing_lines.specs.Texts.{countLines}
 use Rattle.source.specs.Bytes.{bytes}
@@ -30,7 +29,12 @@ same-length c = search needs
 
 returns : tie.Need-returns
 unfolding countLines
-returns c = (then (octal-line (bytes "entry=") (c .before .before .before .before .before .before .before .before .before .before .before .before .before .before .before .before .args .entry) (c .before .before .before .before .before .before .before .before .before .before .before .before .put-line .ensures .0)) (then (c .before .before .before .before .before .before .before .put-number .ensures .0) (c .before .before .put-number2 .ensures .0)), omega arith)
+returns c =
+    let at-put-number2 = c .before .before in
+    let at-put-number = at-put-number2 .before .before .before .before .before in
+    let at-put-line = at-put-number .before .before .before .before .before in
+    let entry = at-put-line .before .before .before .before in
+    (then (octal-line (bytes "entry=") (entry .args .entry) (at-put-line .put-line .ensures .0)) (then (at-put-number .put-number .ensures .0) (at-put-number2 .put-number2 .ensures .0)), omega arith)
 
 pub put-counts-spec : {M : Type 1} → statement M
 put-counts-spec =

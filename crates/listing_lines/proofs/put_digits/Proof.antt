@@ -1,4 +1,4 @@
--- `put_digits` meets its contract. Assumes nothing.
+-- The invariant: the `k` digits left of `m`, stored over what is there, give the whole.
 use mathlib.Core.Path.{_≡_, refl, _∙_}
 use native.Mathlib.Omega.{arith}
 use Prim.Native.Nat.{_≤_}
@@ -45,7 +45,11 @@ loop-less : tie.Need-loop-less Inv-loop μ-loop
 loop-less c = search needs
 
 loop-again : tie.Need-loop-again Inv-loop μ-loop
-loop-again c = (simp (c .before .before .store .ensures, length-set) (c .before .before .before .before .before .loop .inv .0), omega arith, last-digit _ _ _ _ _ (c .before .before .before .before .loop-test .taken) (c .before .before .store .ensures) ∙ c .before .before .before .before .before .loop .inv .2)
+loop-again c =
+    let at-store = c .before .before in
+    let at-loop-test = at-store .before .before in
+    let at-loop = at-loop-test .before in
+    (simp (at-store .store .ensures, length-set) (at-loop .loop .inv .0), omega arith, last-digit _ _ _ _ _ (at-loop-test .loop-test .taken) (at-store .store .ensures) ∙ at-loop .loop .inv .2)
 
 add-result : tie.Need-add-result Inv-loop μ-loop
 add-result c = search needs

@@ -1,4 +1,3 @@
--- `put_line` meets its contract. Assumes nothing.
 use mathlib.Core.Path.{refl}
 use native.Mathlib.Omega.{arith}
 use Rattle.listing_lines.proofs.Laws.{then, one}
@@ -23,8 +22,11 @@ same-length c = search needs
 
 returns : tie.Need-returns
 returns c =
-    let n = c .before .before .before .before .before .before .before .before .before .before .put-text .ensures .ends in
-    (then (c .before .before .before .before .before .before .before .before .before .before .put-text .ensures) (then (c .before .before .before .before .before .before .put-digits .ensures .0) (one 10 (c .before .before .store .ensures) refl)), omega (arith, n))
+    let at-store = c .before .before in
+    let at-put-digits = at-store .before .before .before .before in
+    let at-put-text = at-put-digits .before .before .before .before in
+    let n = at-put-text .put-text .ensures .ends in
+    (then (at-put-text .put-text .ensures) (then (at-put-digits .put-digits .ensures .0) (one 10 (at-store .store .ensures) refl)), omega (arith, n))
 
 pub put-line-spec : {M : Type 1} → statement M
 put-line-spec =

@@ -1,4 +1,3 @@
--- `put_number` meets its contract. Assumes nothing.
 use native.Mathlib.Omega.{arith}
 use Rattle.listing_lines.proofs.Laws.{number-line}
 use borrow.Author.Needs.{needs}
@@ -15,7 +14,10 @@ same-length : tie.Need-same-length
 same-length c = search needs
 
 returns : tie.Need-returns
-returns c = (number-line (c .before .before .before .before .before .before .before .args .name .now) (c .before .before .before .before .before .before .before .args .n) (c .before .before .before .decimal-length .ensures .0) (c .before .before .put-line .ensures .0), omega arith)
+returns c =
+    let at-decimal-length = c .before .before .before in
+    let entry = at-decimal-length .before .before .before .before in
+    (number-line (entry .args .name .now) (entry .args .n) (at-decimal-length .decimal-length .ensures .0) (c .before .before .put-line .ensures .0), omega arith)
 
 pub put-number-spec : {M : Type 1} → statement M
 put-number-spec =

@@ -1,4 +1,3 @@
--- `put_result` meets its contract. Assumes nothing.
 use native.Mathlib.Omega.{arith}
 use Rattle.listing_lines.specs.Texts.{resultLines}
 use Rattle.listing_lines.proofs.Laws.{then}

@@ -1,4 +1,4 @@
--- `put_text` meets its contract. Assumes nothing.
+-- The invariant: what is written, with the text from `i` on, gives the whole text.
 use mathlib.Core.Path.{_≡_, refl}
 use native.Mathlib.Omega.{arith}
 use Prim.Native.Nat.{_+_, _-_, _≤_}
@@ -33,7 +33,11 @@ loop-less : tie.Need-loop-less Inv-loop μ-loop
 loop-less c = search needs
 
 loop-again : tie.Need-loop-again Inv-loop μ-loop
-loop-again c = (simp (c .before .before .store .ensures, length-set) (c .before .before .before .before .before .before .loop .inv .0), omega arith, goes-on _ _ (next-byte _ _ (c .before .before .before .before .before .loop-test .taken)) (c .before .before .before .before .before .before .loop .inv .2) (one _ (c .before .before .store .ensures) (omega arith)))
+loop-again c =
+    let at-store = c .before .before in
+    let at-loop-test = at-store .before .before .before in
+    let at-loop = at-loop-test .before in
+    (simp (at-store .store .ensures, length-set) (at-loop .loop .inv .0), omega arith, goes-on _ _ (next-byte _ _ (at-loop-test .loop-test .taken)) (at-loop .loop .inv .2) (one _ (at-store .store .ensures) (omega arith)))
 
 add-result : tie.Need-add-result Inv-loop μ-loop
 add-result c = search needs

@@ -1,4 +1,3 @@
--- `put_word` meets its contract. Assumes nothing.
 use native.Mathlib.Omega.{arith}
 use Rattle.listing_lines.specs.Texts.{wordLine}
 use Rattle.source.specs.Bytes.{bytes}
@@ -25,8 +24,12 @@ same-length c = search needs
 returns : tie.Need-returns
 unfolding wordLine
 returns c =
-    let n = c .before .before .before .before .before .before .before .before .before .before .before .put-text .ensures .ends in
-    (then (c .before .before .before .before .before .before .before .before .before .before .before .put-text .ensures) (then (octal-number (c .before .before .before .before .before .before .before .before .before .before .before .before .before .before .before .args .address) (c .before .before .before .before .before .before .before .put-digits .ensures .0)) (octal-line (bytes ":") (c .before .before .before .before .before .before .before .before .before .before .before .before .before .before .before .args .word) (c .before .before .put-line .ensures .0))), omega (arith, n))
+    let at-put-line = c .before .before in
+    let at-put-digits = at-put-line .before .before .before .before .before in
+    let at-put-text = at-put-digits .before .before .before .before in
+    let entry = at-put-text .before .before .before .before in
+    let n = at-put-text .put-text .ensures .ends in
+    (then (at-put-text .put-text .ensures) (then (octal-number (entry .args .address) (at-put-digits .put-digits .ensures .0)) (octal-line (bytes ":") (entry .args .word) (at-put-line .put-line .ensures .0))), omega (arith, n))
 
 pub put-word-spec : {M : Type 1} → statement M
 put-word-spec =

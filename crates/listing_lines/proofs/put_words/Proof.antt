@@ -1,10 +1,10 @@
--- `put_words` meets its contract. Assumes nothing.
+-- The invariant: what is written, with the lines of the words that are left, gives all the lines.
 use mathlib.Core.Path.{_≡_, refl}
 use native.Mathlib.Omega.{arith}
 use Prim.Native.Nat.{_+_, _*_, _≤_}
 use lib.ListN.{length, take, drop}
 use lib.Seq.{length-sets}
-use Rattle.emission.specs.Listing.{wordLines}
+use Rattle.compilation.specs.Listing.{wordLines}
 use Rattle.listing_lines.proofs.Laws.{Left, begins, goes-on, is-whole, next-word, no-word, none-left}
 use borrow.Author.Needs.{needs}
 use Rattle.listing_lines.proofs.put_words.Statement.{statement}
@@ -47,7 +47,13 @@ loop-less : tie.Need-loop-less Inv-loop μ-loop
 loop-less c = search needs
 
 loop-again : tie.Need-loop-again Inv-loop μ-loop
-loop-again c = (simp (c .before .before .put-word .ensures .0 .written, length-sets) (c .before .before .before .before .before .before .before .loop .inv .0), omega arith, goes-on _ _ (next-word _ (c .before .before .before .before .before .before .before .before .before .before .before .args .image .now) (c .before .before .before .before .before .before .before .loop .i) (c .before .before .before .before .before .before .before .loop .left) (c .before .before .before .before .before .if1 .left) (c .before .before .before .before .before .before .loop-test .taken)) (c .before .before .before .before .before .before .before .loop .inv .2) (c .before .before .put-word .ensures .0))
+loop-again c =
+    let at-put-word = c .before .before in
+    let at-if1 = at-put-word .before .before .before in
+    let at-loop-test = at-if1 .before in
+    let at-loop = at-loop-test .before in
+    let entry = at-loop .before .before .before .before in
+    (simp (at-put-word .put-word .ensures .0 .written, length-sets) (at-loop .loop .inv .0), omega arith, goes-on _ _ (next-word _ (entry .args .image .now) (at-loop .loop .i) (at-loop .loop .left) (at-if1 .if1 .left) (at-loop-test .loop-test .taken)) (at-loop .loop .inv .2) (at-put-word .put-word .ensures .0))
 
 same-length-2 : tie.Need-same-length-2 Inv-loop μ-loop
 same-length-2 c = c .before .loop .inv .0

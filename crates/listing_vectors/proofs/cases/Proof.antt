@@ -1,4 +1,4 @@
--- `listing_vectors::cases` is safe and ends. Assumes nothing.
+-- `listing_vectors::cases` is safe and ends.
 use Prim.Native.Nat.{_≤_, _-_}
 use borrow.Author.Needs.{needs}
 use Rattle.listing_vectors.proofs.cases.Statement.{statement}

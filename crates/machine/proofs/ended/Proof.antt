@@ -1,4 +1,3 @@
--- `machine::ended` meets its contract. Assumes nothing.
 use borrow.Author.Needs.{needs}
 use Rattle.machine.proofs.ended.Statement.{statement}
 use Rattle.machine.proofs.ended.Tie as tie

@@ -1,4 +1,4 @@
--- `machine::run` meets its contract: at each `return` the tests that led there say which case of `runDef` holds. Assumes nothing.
+-- At each `return` the tests that led there say which case of `runDef` holds.
 use borrow.Author.Tests.{lt-ltb, le-ltb, eq-eqb, ne-eqb}
 use mathlib.Core.Path.{refl}
 use Rattle.machine.specs.Run.{runDef}
@@ -36,7 +36,10 @@ same-length c = search needs
 returns-4 : tie.Need-returns-4
 unfolding runDef
 returns-4 c =
-    rw (eq-eqb _ _ (c .before .before .before .before .before .before .before .before .if1 .left), le-ltb _ _ (c .before .before .before .before .before .before .if2 .left), le-ltb _ _ (c .before .before .before .before .if3 .left))
+    let at-if3 = c .before .before .before .before in
+    let at-if2 = at-if3 .before .before in
+    let at-if1 = at-if2 .before .before in
+    rw (eq-eqb _ _ (at-if1 .if1 .left), le-ltb _ _ (at-if2 .if2 .left), le-ltb _ _ (at-if3 .if3 .left))
     (c .before .before .steps .ensures)
 
 pub run-spec : {M : Type 1} → statement M

@@ -1,8 +1,6 @@
--- `machine::spent` meets its contract. Assumes nothing.
-use Rattle.machine.proofs.Ticks.{spend-many}
+use Rattle.machine.proofs.Ticks.{spend-many, at}
 use native.Mathlib.Omega.{arith}
 use mathlib.Core.Path.{sym, ap, _∙_}
-use Rattle.machine.proofs.Ticks.{at}
 use borrow.Author.Needs.{needs}
 use Rattle.machine.proofs.spent.Statement.{statement}
 use Rattle.machine.proofs.spent.Tie as tie

@@ -1,4 +1,4 @@
--- `machine::steps` meets its contract. The loop's invariant: the whole run is i steps more than the run of what is left from the state reached. Assumes nothing.
+-- The loop's invariant: the whole run is i steps more than the run of what is left from the state reached.
 use Prim.Native.Nat.{_≤_, _-_}
 use mathlib.Core.Path.{_≡_, refl, sym, ap, subst, _∙_}
 use native.Mathlib.Omega.{arith}
@@ -24,12 +24,20 @@ abbrev μ-loop : tie.MeasureT-loop
 
 -- the step that was made, and the one that failed, as the definition has them
 made-step : (c : tie.After-s Inv-loop μ-loop)
-    → stepDef (state (c .before .before .before .before .before .before .before .before .before .loop .m) (c .before .before .before .before .before .before .before .before .before .loop .image)) ≡ made (state (c .s .given .0 .0) (c .before .before .before .before .step .last .1 .0))
-made-step c = step-made _ _ _ (sym (c .before .before .before .before .step .ensures .0) ∙ c .s .given .1) (c .before .before .before .before .step .ensures .1)
+    → let at-step = c .before .before .before .before in
+    let at-loop = at-step .before .before .before .before .before in
+    stepDef (state (at-loop .loop .m) (at-loop .loop .image)) ≡ made (state (c .s .given .0 .0) (at-step .step .last .1 .0))
+made-step c =
+    let at-step = c .before .before .before .before in
+    step-made _ _ _ (sym (at-step .step .ensures .0) ∙ c .s .given .1) (at-step .step .ensures .1)
 
 failed-step : (c : tie.After-s2 Inv-loop μ-loop)
-    → (stepDef (state (c .before .before .before .before .before .before .before .before .before .loop .m) (c .before .before .before .before .before .before .before .before .before .loop .image)) ≡ failed (c .s2 .given .0 .0)) × (c .before .before .before .before .step .last .1 .0 ≡ c .before .before .before .before .before .before .before .before .before .loop .image)
-failed-step c = step-failed _ _ _ (sym (c .before .before .before .before .step .ensures .0) ∙ c .s2 .given .1) (c .before .before .before .before .step .ensures .1)
+    → let at-step = c .before .before .before .before in
+    let at-loop = at-step .before .before .before .before .before in
+    (stepDef (state (at-loop .loop .m) (at-loop .loop .image)) ≡ failed (c .s2 .given .0 .0)) × (at-step .step .last .1 .0 ≡ at-loop .loop .image)
+failed-step c =
+    let at-step = c .before .before .before .before in
+    step-failed _ _ _ (sym (at-step .step .ensures .0) ∙ c .s2 .given .1) (at-step .step .ensures .1)
 
 table-requires : tie.Need-table-requires Inv-loop μ-loop
 table-requires c κs = tt
@@ -56,7 +64,10 @@ returns-2 : tie.Need-returns-2 Inv-loop μ-loop
 returns-2 c = rw (run-ended _ _ _ _ (c .before .before .before .loop .inv .0) (run-spent _ _ (c .before .before .if1 .left) (omega arith))) (c .ended2 .ensures, refl)
 
 step-requires : tie.Need-step-requires Inv-loop μ-loop
-step-requires c κs = (c .before .before .before .before .before .table .ensures, c .before .before .before .before .loop .inv .1 .0, c .before .before .before .before .loop .inv .1 .1)
+step-requires c κs =
+    let at-loop = c .before .before .before .before in
+    let at-table = at-loop .before in
+    (at-table .table .ensures, at-loop .loop .inv .1 .0, at-loop .loop .inv .1 .1)
 
 enum-known-s : tie.Need-enum-known-s Inv-loop μ-loop
 enum-known-s c = search needs
@@ -68,7 +79,9 @@ ended-requires-3 : tie.Need-ended-requires-3 Inv-loop μ-loop
 ended-requires-3 c κs = tt
 
 same-length-3 : tie.Need-same-length-3 Inv-loop μ-loop
-same-length-3 c = ap length (failed-step (c .before .before) .1) ∙ c .before .before .before .before .before .before .before .before .before .before .before .loop .inv .3
+same-length-3 c =
+    let at-loop = c .before .before .before .before .before .before .before .before .before .before .before in
+    ap length (failed-step (c .before .before) .1) ∙ at-loop .loop .inv .3
 
 returns-3 : tie.Need-returns-3 Inv-loop μ-loop
 returns-3 c = rw (run-ended _ _ _ _ (c .before .before .before .before .before .before .before .before .before .before .before .loop .inv .0) (run-failed _ _ (c .before .before .before .before .before .before .before .before .before .before .if1 .left) (omega arith) (failed-step (c .before .before) .0))) (c .ended3 .ensures, failed-step (c .before .before) .1)
@@ -81,10 +94,11 @@ loop-less c = omega arith
 
 loop-again : tie.Need-loop-again Inv-loop μ-loop
 loop-again c =
-    let l = c .before .before .before .before .before .before .before .before .before .before .loop in
+    let at-if1 = c .before .before .before .before .before .before .before .before .before in
+    let l = at-if1 .before .loop in
     let e = made-step (c .before) in
     let g = subst GoodStep e (step-good (state (l .m) (l .image)) (l .inv .1)) in
-    (run-onward _ _ _ _ (l .inv .0) (c .before .before .before .before .before .before .before .before .before .if1 .left) (omega arith) e, g, omega arith, g .0 ∙ sym (l .inv .1 .0) ∙ l .inv .3)
+    (run-onward _ _ _ _ (l .inv .0) (at-if1 .if1 .left) (omega arith) e, g, omega arith, g .0 ∙ sym (l .inv .1 .0) ∙ l .inv .3)
 
 pub steps-spec : {M : Type 1} → statement M
 steps-spec =

@@ -1,4 +1,4 @@
--- `machine_cases::attempt` is safe: the part that is lent is as long as asked. Assumes nothing.
+-- The part that is lent is as long as asked.
 use native.Mathlib.Omega.{arith}
 use lib.ListN.{length-take}
 use borrow.Author.Needs.{needs}

@@ -1,4 +1,4 @@
--- `machine_export::fits` meets its contract: the count, the words and the flags in turn. Assumes nothing.
+-- The count, the words and the flags in turn.
 use mathlib.Core.Path.{refl, sym, _∙_}
 use borrow.Author.Tests.{eq-eqb, ne-eqb}
 use Rattle.machine_export.specs.Export.{fitsOf}

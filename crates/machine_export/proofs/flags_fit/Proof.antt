@@ -1,4 +1,4 @@
--- `machine_export::flags_fit` meets its contract: at each `return` the tests that led there say which case of `upTo` holds. Assumes nothing.
+-- At each `return` the tests that led there say which case of `upTo` holds.
 use borrow.Author.Tests.{le-leb, lt-leb}
 use Rattle.machine_export.specs.Export.{upTo}
 use borrow.Author.Needs.{needs}
@@ -38,18 +38,34 @@ shared-slice-read-if5 c = search needs
 
 returns-5 : tie.Need-returns-5
 unfolding upTo
-returns-5 c = simp (le-leb _ 1 (c .before .before .before .before .before .before .before .before .if1 .left), le-leb _ 1 (c .before .before .before .before .before .before .if2 .left), le-leb _ 1 (c .before .before .before .before .if3 .left), le-leb _ 1 (c .before .before .if4 .left), lt-leb _ 1 (c .if5 .taken))
+returns-5 c =
+    let at-if3 = c .before .before .before .before in
+    let at-if2 = at-if3 .before .before in
+    let at-if1 = at-if2 .before .before in
+    simp (le-leb _ 1 (at-if1 .if1 .left), le-leb _ 1 (at-if2 .if2 .left), le-leb _ 1 (at-if3 .if3 .left), le-leb _ 1 (c .before .before .if4 .left), lt-leb _ 1 (c .if5 .taken))
 
 shared-slice-read-if6 : tie.Need-shared-slice-read-if6
 shared-slice-read-if6 c = search needs
 
 returns-6 : tie.Need-returns-6
 unfolding upTo
-returns-6 c = simp (le-leb _ 1 (c .before .before .before .before .before .before .before .before .before .before .if1 .left), le-leb _ 1 (c .before .before .before .before .before .before .before .before .if2 .left), le-leb _ 1 (c .before .before .before .before .before .before .if3 .left), le-leb _ 1 (c .before .before .before .before .if4 .left), le-leb _ 1 (c .before .before .if5 .left), lt-leb _ 1 (c .if6 .taken))
+returns-6 c =
+    let at-if5 = c .before .before in
+    let at-if4 = at-if5 .before .before in
+    let at-if3 = at-if4 .before .before in
+    let at-if2 = at-if3 .before .before in
+    let at-if1 = at-if2 .before .before in
+    simp (le-leb _ 1 (at-if1 .if1 .left), le-leb _ 1 (at-if2 .if2 .left), le-leb _ 1 (at-if3 .if3 .left), le-leb _ 1 (at-if4 .if4 .left), le-leb _ 1 (at-if5 .if5 .left), lt-leb _ 1 (c .if6 .taken))
 
 returns-7 : tie.Need-returns-7
 unfolding upTo
-returns-7 c = simp (le-leb _ 1 (c .before .before .before .before .before .before .before .before .before .before .if1 .left), le-leb _ 1 (c .before .before .before .before .before .before .before .before .if2 .left), le-leb _ 1 (c .before .before .before .before .before .before .if3 .left), le-leb _ 1 (c .before .before .before .before .if4 .left), le-leb _ 1 (c .before .before .if5 .left), le-leb _ 1 (c .if6 .left))
+returns-7 c =
+    let at-if5 = c .before .before in
+    let at-if4 = at-if5 .before .before in
+    let at-if3 = at-if4 .before .before in
+    let at-if2 = at-if3 .before .before in
+    let at-if1 = at-if2 .before .before in
+    simp (le-leb _ 1 (at-if1 .if1 .left), le-leb _ 1 (at-if2 .if2 .left), le-leb _ 1 (at-if3 .if3 .left), le-leb _ 1 (at-if4 .if4 .left), le-leb _ 1 (at-if5 .if5 .left), le-leb _ 1 (c .if6 .left))
 
 pub flags-fit-spec : {M : Type 1} → statement M
 flags-fit-spec =

@@ -1,4 +1,3 @@
--- `machine_export::machine_of` meets its contract. Assumes nothing.
 use borrow.Author.Needs.{needs}
 use mathlib.Core.Path.{refl}
 use Rattle.machine_export.specs.Export.{machineOf}

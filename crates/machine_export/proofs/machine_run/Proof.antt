@@ -1,4 +1,4 @@
--- `machine_export::machine_run` meets its contract: the numbers are read, the run made and the numbers written, or refused. Assumes nothing.
+-- The numbers are read, the run made and the numbers written, or refused.
 use mathlib.Core.Path.{refl, sym, ap, _∙_}
 use native.Mathlib.Omega.{arith}
 use Rattle.machine_export.specs.Export.{withReport}
@@ -23,7 +23,10 @@ run-requires : tie.Need-run-requires
 run-requires c κs = search needs
 
 put-report-requires : tie.Need-put-report-requires
-put-report-requires c κs = fitting _ (sym (c .before .before .before .before .before .before .before .before .before .before .fits2 .ensures) ∙ c .before .before .before .before .before .before .before .before .before .if1 .taken) .count
+put-report-requires c κs =
+    let at-if1 = c .before .before .before .before .before .before .before .before .before in
+    let at-fits2 = at-if1 .before in
+    fitting _ (sym (at-fits2 .fits2 .ensures) ∙ at-if1 .if1 .taken) .count
 
 same-length : tie.Need-same-length
 same-length c = search needs
@@ -33,8 +36,13 @@ same-length-2 c = search needs
 
 returns : tie.Need-returns
 returns c =
-    rw (sym (c .before .before .before .before .before .before .before .before .before .before .before .before .before .fits2 .ensures) ∙ c .before .before .before .before .before .before .before .before .before .before .before .before .if1 .taken, ← c .before .before .before .before .before .before .before .before .before .before .machine-of .ensures)
-    (refl, c .before .before .before .before .before .before .run .ensures .1, c .before .before .put-report .ensures ∙ ap (withReport _) (c .before .before .before .before .before .before .run .ensures .0))
+    let at-put-report = c .before .before in
+    let at-run = at-put-report .before .before .before .before in
+    let at-machine-of = at-run .before .before .before .before in
+    let at-if1 = at-machine-of .before .before in
+    let at-fits2 = at-if1 .before in
+    rw (sym (at-fits2 .fits2 .ensures) ∙ at-if1 .if1 .taken, ← at-machine-of .machine-of .ensures)
+    (refl, at-run .run .ensures .1, at-put-report .put-report .ensures ∙ ap (withReport _) (at-run .run .ensures .0))
 
 same-length-3 : tie.Need-same-length-3
 same-length-3 c = search needs

@@ -1,4 +1,4 @@
--- `machine_export::words_fit` meets its contract: at each `return` the tests that led there say which case of `upTo` holds. Assumes nothing.
+-- At each `return` the tests that led there say which case of `upTo` holds.
 use borrow.Author.Tests.{le-leb, lt-leb}
 use Rattle.machine_export.specs.Export.{upTo}
 use borrow.Author.Needs.{needs}

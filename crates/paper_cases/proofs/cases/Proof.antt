@@ -1,4 +1,3 @@
--- `paper_cases::cases` is safe and ends. Assumes nothing.
 use Prim.Native.Nat.{_≤_, _-_}
 use borrow.Author.Needs.{needs}
 use Rattle.paper_cases.proofs.cases.Statement.{statement}

@@ -1,4 +1,4 @@
--- What holds of the branches that a definition chooses among holds of what it chooses. Assumes nothing.
+-- What holds of the branches that a definition chooses among holds of what it chooses.
 use Prim.Native.Nat.{ℕ}
 use mathlib.Core.Path.{_≡_, refl}
 use mathlib.Core.Bool.{Bool, true, false}
@@ -6,9 +6,9 @@ use mathlib.Core.List.{List, [], _∷_}
 use mathlib.Core.Option.{Option, none, some}
 use lib.Dec.{eqb}
 use borrow.Author.Tests.{eqb-true}
-use Rattle.source.specs.Bytes.{whether, find, given}
+use Rattle.prelude.specs.Choice.{whether, find, given}
 use Rattle.source.specs.declared.Token.{Token}
-use Rattle.syntax.specs.Words.{asOneOf}
+use Rattle.grammar.specs.Vocabulary.{asOneOf}
 
 pub choice : {B : Type 0} (P : B → Type 0) (b : Bool) (x y : B) → (b ≡ true → P x) → (b ≡ false → P y) → P (whether b (λ _. x) (λ _. y))
 choice P true x y f g = f refl

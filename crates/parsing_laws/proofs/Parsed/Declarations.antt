@@ -1,4 +1,4 @@
--- Declarations and the main body. Assumes nothing.
+-- Declarations and the main body.
 use Prim.Native.Nat.{ℕ, _+_, _≤_, _<_}
 use mathlib.Core.Path.{_≡_, refl}
 use mathlib.Core.Bool.{Bool, true, false}
@@ -10,17 +10,17 @@ use borrow.Author.Tests.{eqb-true, leb-true, ltb-true}
 use Rattle.source.specs.Kinds
 use Rattle.source.specs.declared.Token.{Token}
 use Rattle.source.specs.Tokens.{tokenAt, nameOf}
-use Rattle.syntax.specs.Tree.{Name, Item, Declaration}
-use Rattle.syntax.specs.Symbols.{Level, Names, Scope, declareItem, localScope}
-use Rattle.syntax.specs.State.{stateAfter, localWords}
-use Rattle.syntax.specs.Limits.{wordLimit, nameLimit, declarationLimit}
-use Rattle.syntax.specs.Parse.{Got, is}
-use Rattle.syntax.specs.Declarations.{isTaken, newName, ItemWord, itemWords, itemLimit, sizeOf, parseValue, itemFrom, parseItem, parseList, parseLocal, parseLocals, parseGlobal, parseInitial, parseInitials, parseArray, parseJudged, parseProcedure, parseAccumulator, declarationWords, parseDeclarations}
-use Rattle.syntax.specs.Program.{parseMain}
+use Rattle.tree.specs.Tree.{Name, Item, Declaration}
+use Rattle.tree.specs.Symbols.{Level, Names, Scope, declareItem, localScope, isTaken}
+use Rattle.layout.specs.Allocation.{allocated, localWords}
+use Rattle.layout.specs.Limits.{wordLimit, nameLimit, declarationLimit}
+use Rattle.grammar.specs.Parse.{Got, is}
+use Rattle.grammar.specs.Declarations.{newName, ItemKeyword, itemKeywords, itemLimit, sizeOf, parseValue, itemFrom, parseItem, parseList, parseLocal, parseLocals, parseGlobal, parseInitial, parseInitials, parseArray, parseLimited, parseProcedure, parseAccumulator, declarationKeywords, parseDeclarations}
+use Rattle.grammar.specs.Program.{parseMain}
 use Rattle.parsing_laws.specs.WellFormed.{Context, Kind, itemKinds, kindsOf, ValueOk, LocalsOk, WordsOk, DeclarationOk, DeclarationsOk, none, more, WellFormed}
 use Rattle.parsing_laws.proofs.Parsed.Choices.{choice, Some, there, nothing, Rows, last, row, one-of, row-of}
 use Rattle.parsing_laws.proofs.Parsed.Words.{IsWord}
-use Rattle.parsing_laws.proofs.Parsed.Parts.{Parsed, fine, Parses, Limit, Ended, Held, token-held, begun, fails, not-allowed, either, and-then, expected, skipped, limited, repeated, some-parted}
+use Rattle.parsing_laws.proofs.Parsed.Parts.{Parsed, fine, Parses, Limit, Ended, Held, token-held, begun, fails, not-allowed, either, and-then, expected, skipped, limited, repeated, some-separated}
 use Rattle.parsing_laws.proofs.Parsed.Limits.{passed, name-limit, array-limit, declaration-limit, main-limit}
 use Rattle.parsing_laws.proofs.Parsed.Names.{NamesOk}
 use Rattle.parsing_laws.proofs.Parsed.Forms.{all-snoc, constants, judged, in-range}
@@ -28,21 +28,21 @@ use Rattle.parsing_laws.proofs.Parsed.Statements.{outermost}
 use Rattle.parsing_laws.proofs.Parsed.Scopes.{outer, declared}
 use Rattle.parsing_laws.proofs.Parsed.Locals.{body-names}
 
-item-limit : (word : ItemWord) (sc : Scope) → Limit (itemLimit word sc)
+item-limit : (word : ItemKeyword) (sc : Scope) → Limit (itemLimit word sc)
 unfolding itemLimit
-item-limit ItemWord.integer sc = name-limit sc
-item-limit ItemWord.constant sc = name-limit sc
-item-limit ItemWord.compconstant sc = passed
+item-limit ItemKeyword.integer sc = name-limit sc
+item-limit ItemKeyword.constant sc = name-limit sc
+item-limit ItemKeyword.compconstant sc = passed
 
 -- 11 passes: there is a word left
-room : (sc : Scope) → sc .level ≡ Level.outer → nameLimit sc ≡ 0 → sc .words < 384
+room : (sc : Scope) → sc .level ≡ Level.outer → nameLimit sc ≡ 0 → sc .taken < 384
 unfolding nameLimit wordLimit
 room sc e z =
-    choice (λ (n : ℕ). n ≡ 0 → sc .words < 384) (ltb (sc .words) 384) 0 11 (λ h _. ltb-true (sc .words) 384 h) (λ h y. absurd (omega arith)) (rw e at z)
+    choice (λ (n : ℕ). n ≡ 0 → sc .taken < 384) (ltb (sc .taken) 384) 0 11 (λ h _. ltb-true (sc .taken) 384 h) (λ h y. absurd (omega arith)) (rw e at z)
 
 -- an item of the declared sort, with its value, whose name is within the limit
 abbrev ItemOk : Scope → Name × Item → Type 0
-ItemOk sc item = ValueOk (item .1) × (sc .level ≡ Level.outer → sc .words ≤ 384 → sc .words + length (itemKinds (item .1)) ≤ 384)
+ItemOk sc item = ValueOk (item .1) × (sc .level ≡ Level.outer → sc .taken ≤ 384 → sc .taken + length (itemKinds (item .1)) ≤ 384)
 
 -- no more values than the size
 abbrev ValuesOk : ℕ → List ℕ → Type 0
@@ -67,13 +67,13 @@ module _ (source : List ℕ) where
     unfolding parseValue
     values name item k at h = skipped Kinds.equal h (λ n h. and-then (constants source known n h) (λ v p m h. fine (k v p) h))
 
-    items-from : (word : ItemWord) (name : Name) → itemLimit word sc ≡ 0 → Parses source (ItemOk sc) (itemFrom source word sc name)
+    items-from : (word : ItemKeyword) (name : Name) → itemLimit word sc ≡ 0 → Parses source (ItemOk sc) (itemFrom source word sc name)
     unfolding itemFrom itemLimit
-    items-from ItemWord.integer name z at h = fine {t = (name, Item.integer)} (tt, λ e f. let r = room sc e z in omega arith) h
-    items-from ItemWord.constant name z at h = values name Item.constant (λ v p. (p, λ e f. let r = room sc e z in omega arith)) at h
-    items-from ItemWord.compconstant name z at h = values name Item.compconstant (λ v p. (p, λ e f. omega arith)) at h
+    items-from ItemKeyword.integer name z at h = fine {t = (name, Item.integer)} (tt, λ e f. let r = room sc e z in omega arith) h
+    items-from ItemKeyword.constant name z at h = values name Item.constant (λ v p. (p, λ e f. let r = room sc e z in omega arith)) at h
+    items-from ItemKeyword.compconstant name z at h = values name Item.compconstant (λ v p. (p, λ e f. omega arith)) at h
 
-    items : (word : ItemWord) → Parses source (ItemOk sc) (parseItem source word sc)
+    items : (word : ItemKeyword) → Parses source (ItemOk sc) (parseItem source word sc)
     unfolding parseItem
     items word at h = and-then (new-name sc (itemLimit word sc) (item-limit word sc) (token-held source h)) (items-from word)
 
@@ -81,10 +81,10 @@ module _ (source : List ℕ) where
   lists : {A : Type 0} {P : A → Type 0} {add : A → ℕ → Got A} → ((done : A) → P done → Parses source P (add done)) → (done : A) → P done → Parses source P (parseList source add done)
   unfolding parseList
   lists {add = add} k done p at h =
-      and-then (some-parted Kinds.comma (add done) add (k done p) k at h) (λ longer q n h. skipped Kinds.semicolon h (λ m h. fine q h))
+      and-then (some-separated Kinds.comma (add done) add (k done p) k at h) (λ longer q n h. skipped Kinds.semicolon h (λ m h. fine q h))
 
   module _ (ks : List Kind) (sc : Scope) (name : Name) (known : NamesOk (outer ks) (sc .names)) where
-    local-items : (word : ItemWord) (done : List (Name × Item)) → LocalsOk done → Parses source LocalsOk (parseLocal source (localScope sc name) word done)
+    local-items : (word : ItemKeyword) (done : List (Name × Item)) → LocalsOk done → Parses source LocalsOk (parseLocal source (localScope sc name) word done)
     unfolding parseLocal
     local-items word done p at h =
         and-then (items (foldl declareItem (localScope sc name) done) (body-names ks sc name done known p) word at h)
@@ -93,16 +93,16 @@ module _ (source : List ℕ) where
     locals : Parses source LocalsOk (parseLocals source (localScope sc name))
     unfolding parseLocals
     locals =
-        repeated _ (λ done p n h. one-of (Some (Parsed source LocalsOk)) itemWords (tokenAt source n) _ _
+        repeated _ (λ done p n h. one-of (Some (Parsed source LocalsOk)) itemKeywords (tokenAt source n) _ _
         (λ word. there (lists (local-items word) done p (tokenAt source n .next) (token-held source h .after))) nothing) [] tt
 
   -- ---- Declarations
 
-  globals : (word : ItemWord) (ds : List Declaration) → DeclarationsOk ds → Parses source DeclarationsOk (parseGlobal source word ds)
+  globals : (word : ItemKeyword) (ds : List Declaration) → DeclarationsOk ds → Parses source DeclarationsOk (parseGlobal source word ds)
   unfolding parseGlobal
   globals word ds d at h =
       let k = declared d in
-      and-then (items (stateAfter ds .scope) (k .names) word at h)
+      and-then (items (allocated ds .scope) (k .names) word at h)
       (λ item p n h. fine (more ds (Declaration.item (item .0) (item .1)) d (p .0, p .1 (k .level) (k .few))) h)
 
   module _ {x : Context} {names : Names} (known : NamesOk x names) (size : ℕ) where
@@ -118,7 +118,7 @@ module _ (source : List ℕ) where
     initials at h =
         let t = tokenAt source at in
         either (is Kinds.leftParenthesis t)
-        (λ e. and-then (some-parted Kinds.comma _ _ (initial [] (omega arith, tt)) initial (t .next) (token-held source h .after))
+        (λ e. and-then (some-separated Kinds.comma _ _ (initial [] (omega arith, tt)) initial (t .next) (token-held source h .after))
         (λ values p n h. skipped Kinds.rightParenthesis h (λ m h. fine p h)))
         (λ e. fine (omega arith, tt) h)
 
@@ -126,7 +126,7 @@ module _ (source : List ℕ) where
   unfolding parseArray
   arrays ds d at h =
       let k = declared d in
-      let st = stateAfter ds in
+      let st = allocated ds in
       and-then (new-name (st .scope) (nameLimit (st .scope)) (name-limit (st .scope)) (token-held source h)) (λ name z n h.
       skipped Kinds.leftBracket h (λ m h.
       and-then (in-range source (k .names) (λ v. leb (sizeOf v) 8192) m h) (λ v q l h.
@@ -136,16 +136,16 @@ module _ (source : List ℕ) where
       fine (more ds (Declaration.array name (sizeOf v) values) d (omega (arith, room (st .scope) (k .level) z), leb-true (sizeOf v) 8192 q, p .0, p .1, y)) h))))))
 
   -- a declaration that is judged at its last token
-  judged-declaration : (ds : List Declaration) (d : Declaration) → DeclarationsOk ds → (declarationLimit (stateAfter ds) d ≡ 0 → DeclarationOk (stateAfter ds) (kindsOf ds) d)
-      → {t : Token} → Held source t → (Ended t → ⊥) → Parsed source DeclarationsOk (parseJudged source ds d t)
-  unfolding parseJudged
-  judged-declaration ds d p k i b = limited (declaration-limit (stateAfter ds) d) i b (λ z. skipped Kinds.semicolon (i .after) (λ n h. fine (more ds d p (k z)) h))
+  judged-declaration : (ds : List Declaration) (d : Declaration) → DeclarationsOk ds → (declarationLimit (allocated ds) d ≡ 0 → DeclarationOk (allocated ds) (kindsOf ds) d)
+      → {t : Token} → Held source t → (Ended t → ⊥) → Parsed source DeclarationsOk (parseLimited source ds d t)
+  unfolding parseLimited
+  judged-declaration ds d p k i b = limited (declaration-limit (allocated ds) d) i b (λ z. skipped Kinds.semicolon (i .after) (λ n h. fine (more ds d p (k z)) h))
 
   procedures : (ds : List Declaration) (accumulator : Bool) → DeclarationsOk ds → Parses source DeclarationsOk (parseProcedure source ds accumulator)
   unfolding parseProcedure localWords
   procedures ds accumulator d at h =
       let k = declared d in
-      let sc = stateAfter ds .scope in
+      let sc = allocated ds .scope in
       and-then (new-name sc (nameLimit sc) (name-limit sc) (token-held source h)) (λ name z n h.
       skipped Kinds.semicolon h (λ m h.
       skipped Kinds.BEGIN h (λ l h.
@@ -162,11 +162,11 @@ module _ (source : List ℕ) where
   abbrev ParserOk : ℕ → (List Declaration → Token → Got (List Declaration)) → Type 0
   ParserOk kind parse = (ds : List Declaration) → DeclarationsOk ds → (t : Token) → Held source t → t .kind ≡ kind → Parsed source DeclarationsOk (parse ds t)
 
-  word-rows : Rows ParserOk (declarationWords source)
+  word-rows : Rows ParserOk (declarationKeywords source)
   word-rows =
-      row (λ ds d t i e. lists (globals ItemWord.integer) ds d (t .next) (i .after))
-      (row (λ ds d t i e. lists (globals ItemWord.constant) ds d (t .next) (i .after))
-      (row (λ ds d t i e. lists (globals ItemWord.compconstant) ds d (t .next) (i .after))
+      row (λ ds d t i e. lists (globals ItemKeyword.integer) ds d (t .next) (i .after))
+      (row (λ ds d t i e. lists (globals ItemKeyword.constant) ds d (t .next) (i .after))
+      (row (λ ds d t i e. lists (globals ItemKeyword.compconstant) ds d (t .next) (i .after))
       (row (λ ds d t i e. lists arrays ds d (t .next) (i .after))
       (row (λ ds d t i e. judged-declaration ds Declaration.nextSector d (λ z. z) i (begun e))
       (row (λ ds d t i e. procedures ds false d (t .next) (i .after))
@@ -184,5 +184,5 @@ module _ (source : List ℕ) where
   mains ds d at h =
       and-then (outermost source (declared d .names) at h) (λ main p n h.
       expected Kinds.END h (λ t i e m h.
-      limited (main-limit (stateAfter ds) main) i (begun e) (λ z.
+      limited (main-limit (allocated ds) main) i (begun e) (λ z.
       skipped Kinds.endOfSource h (λ l h. fine (record { declarations = d; main = p; fits = z }) h))))

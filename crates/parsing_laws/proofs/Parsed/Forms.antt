@@ -1,4 +1,4 @@
--- Cells, expressions and conditions. Assumes nothing.
+-- Cells, expressions and conditions.
 use Prim.Native.Nat.{ℕ, zero, suc, _≤_}
 use mathlib.Core.Path.{_≡_, refl}
 use mathlib.Core.Bool.{Bool, true, false, _&&_}
@@ -7,16 +7,16 @@ use native.Mathlib.Omega.{arith}
 use lib.Dec.{leb}
 use lib.ListN.{length}
 use borrow.Author.Tests.{eqb-true, leb-true}
-use Rattle.source.specs.Bytes.{find, between}
+use Rattle.prelude.specs.Choice.{find, between}
 use Rattle.source.specs.Kinds
 use Rattle.source.specs.declared.Token.{Token}
 use Rattle.source.specs.Tokens.{tokenAt, operatorAt}
-use Rattle.syntax.specs.Tree.{Operation, Expr, Term}
-use Rattle.syntax.specs.Symbols.{Names, asConstant, asOperand, asArray, asFunction}
-use Rattle.syntax.specs.Parse.{Got, andThen, failAt, is, snoc}
-use Rattle.syntax.specs.Words.{unaries, operators, shifts, relations, tests, bares}
-use Rattle.syntax.specs.Cells.{CellStart, refuse, nameAs, constantOf, parseConstant, parseInRange, operandOf, subscriptOf, parseSubscript, cellStart, cellFrom, parseCell, parseLoneCell}
-use Rattle.syntax.specs.Expressions.{TermStart, termStart, parseBracketed, parseCall, termFrom, parseUnaries, operationOf, parseOperations, parseChain, condFrom, parseCond, parseChoice, tooDeepExpr, parseExpr}
+use Rattle.tree.specs.Tree.{Operation, Expr, Term}
+use Rattle.tree.specs.Symbols.{Names, asConstant, asOperand, asArray, asFunction}
+use Rattle.grammar.specs.Parse.{Got, andThen, failAt, is, snoc}
+use Rattle.grammar.specs.Vocabulary.{unaries, operators, shifts, relations, tests, bares}
+use Rattle.grammar.specs.Cells.{CellStart, refuse, nameAs, constantOf, parseConstant, parseInRange, operandOf, subscriptOf, parseSubscript, cellStart, cellFrom, parseCell, parseLoneCell}
+use Rattle.grammar.specs.Expressions.{TermStart, termStart, parseBracketed, parseCall, termFrom, parseUnaries, operationOf, parseOperations, parseChain, condFrom, parseCond, parseChoice, tooDeepExpr, parseExpr}
 use Rattle.parsing_laws.specs.WellFormed.{All, Context, OperandOk, ArrayOk, ProcedureOk, SubscriptOk, CellOk, OperationOk, OperationsOk, TermOk, CondOk, ExprBy, ExprOk}
 use Rattle.parsing_laws.proofs.Parsed.Choices.{Some, there, nothing, one-of}
 use Rattle.parsing_laws.proofs.Parsed.Words.{IsWord}

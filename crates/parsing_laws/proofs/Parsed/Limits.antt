@@ -1,13 +1,13 @@
--- Every limit passes, or gives 11, 12 or 13. Assumes nothing.
+-- Every limit passes, or gives 11, 12 or 13.
 use Prim.Native.Nat.{ℕ, zero, suc, _+_, _*_, _≤_}
 use mathlib.Core.Path.{refl}
 use native.Mathlib.Omega.{arith}
 use lib.Dec.{leb, ltb}
 use lib.ListN.{length}
-use Rattle.syntax.specs.Tree.{Stmts, Declaration}
-use Rattle.syntax.specs.Symbols.{Level, Scope}
-use Rattle.syntax.specs.State.{State, sectorOf, step, finish}
-use Rattle.syntax.specs.Limits.{wordLimit, nameLimit, spaceLimit, arrayLimit, sectorLimit, followLimit, declarationLimit, mainLimit}
+use Rattle.tree.specs.Tree.{Stmts, Declaration}
+use Rattle.tree.specs.Symbols.{Level, Scope}
+use Rattle.layout.specs.Allocation.{Allocation, sectorOf, allocate, finish}
+use Rattle.layout.specs.Limits.{wordLimit, nameLimit, spaceLimit, sectorLimit, followLimit, declarationLimit, mainLimit}
 use Rattle.parsing_laws.proofs.Parsed.Choices.{choice}
 use Rattle.parsing_laws.proofs.Parsed.Parts.{Limit}
 
@@ -24,29 +24,29 @@ word-limit (Level.inner p) words = passed
 
 pub name-limit : (sc : Scope) → Limit (nameLimit sc)
 unfolding nameLimit
-name-limit sc = word-limit (sc .level) (sc .words)
+name-limit sc = word-limit (sc .level) (sc .taken)
 
-pub array-limit : (st : State) (size : ℕ) → Limit (arrayLimit st size)
-unfolding arrayLimit spaceLimit
-array-limit st size = choice Limit (leb (st .code + length (st .pool) + size) (st .array)) _ _ (λ e. passed) (λ e. stopped 13 (omega arith) (omega arith))
+pub array-limit : (st : Allocation) (size : ℕ) → Limit (spaceLimit st size)
+unfolding spaceLimit
+array-limit st size = choice Limit (leb (st .next + length (st .pool) + size) (st .array)) _ _ (λ e. passed) (λ e. stopped 13 (omega arith) (omega arith))
 
-sector-limit : (st : State) → Limit (sectorLimit st)
-unfolding sectorLimit arrayLimit
+sector-limit : (st : Allocation) → Limit (sectorLimit st)
+unfolding sectorLimit spaceLimit
 sector-limit st =
-    choice Limit (leb (st .code + length (st .pool)) (512 * suc (sectorOf st))) _ _ (λ e. array-limit st 0) (λ e. stopped 12 (omega arith) (omega arith))
+    choice Limit (leb (st .next + length (st .pool)) (512 * suc (sectorOf st))) _ _ (λ e. array-limit st 0) (λ e. stopped 12 (omega arith) (omega arith))
 
-follow-limit : (st : State) (n : ℕ) → Limit n → Limit (followLimit st n)
+follow-limit : (st : Allocation) (n : ℕ) → Limit n → Limit (followLimit st n)
 unfolding followLimit
 follow-limit st zero l = choice Limit (ltb (sectorOf st) 31) _ _ (λ e. passed) (λ e. stopped 13 (omega arith) (omega arith))
 follow-limit st (suc n) l = l
 
-pub declaration-limit : (st : State) (d : Declaration) → Limit (declarationLimit st d)
+pub declaration-limit : (st : Allocation) (d : Declaration) → Limit (declarationLimit st d)
 unfolding declarationLimit
 declaration-limit st (Declaration.item name item) = passed
 declaration-limit st (Declaration.array name size values) = passed
-declaration-limit st (Declaration.procedure name accumulator locals body) = sector-limit (step st (Declaration.procedure name accumulator locals body))
+declaration-limit st (Declaration.procedure name accumulator locals body) = sector-limit (allocate st (Declaration.procedure name accumulator locals body))
 declaration-limit st Declaration.nextSector = follow-limit st (sectorLimit st) (sector-limit st)
 
-pub main-limit : (st : State) (main : Stmts) → Limit (mainLimit st main)
+pub main-limit : (st : Allocation) (main : Stmts) → Limit (mainLimit st main)
 unfolding mainLimit
 main-limit st main = sector-limit (finish st main)

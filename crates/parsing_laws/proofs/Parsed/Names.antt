@@ -1,16 +1,17 @@
--- Live names that stand for what is declared, and what their uses then name. Assumes nothing.
+-- Live names that stand for what is declared, and what their uses then name.
 use Prim.Native.Nat.{ℕ}
 use mathlib.Core.Bool.{true, false}
 use mathlib.Core.List.{List}
 use mathlib.Core.Option.{Option}
-use Rattle.source.specs.Bytes.{sameBytes, given}
+use Rattle.source.specs.Bytes.{sameBytes}
+use Rattle.prelude.specs.Choice.{given}
 use Rattle.source.specs.Kinds
 use Rattle.source.specs.declared.Token.{Token}
 use Rattle.source.specs.Tokens.{nameOf}
-use Rattle.syntax.specs.Tree.{Name}
-use Rattle.syntax.specs.Symbols.{Symbol, Entry, Names, isX, symbolOf, asConstant, asInteger, asOperand, asArray, asProcedure, asFunction}
-use Rattle.syntax.specs.Parse.{Got, is}
-use Rattle.syntax.specs.Cells.{nameAs}
+use Rattle.tree.specs.Tree.{Name}
+use Rattle.tree.specs.Symbols.{Symbol, Entry, Names, isX, symbolOf, asConstant, asInteger, asOperand, asArray, asProcedure, asFunction}
+use Rattle.grammar.specs.Parse.{Got, is}
+use Rattle.grammar.specs.Cells.{nameAs}
 use Rattle.parsing_laws.specs.WellFormed.{Context, IdOk, OperandOk, ArrayOk, ProcedureOk}
 use Rattle.parsing_laws.proofs.Parsed.Choices.{choice, Some, there, nothing, if-some, Rows, if-found}
 use Rattle.parsing_laws.proofs.Parsed.Words.{IsWord}

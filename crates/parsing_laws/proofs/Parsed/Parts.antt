@@ -1,4 +1,4 @@
--- What holds of every outcome of a parser, and how it goes through the combinators that parsers are made of. Assumes nothing.
+-- What holds of every outcome of a parser, and how it goes through the combinators that parsers are made of.
 use Prim.Native.Nat.{ℕ, zero, suc, _≤_, _<_}
 use mathlib.Core.Path.{_≡_, refl}
 use mathlib.Core.Bool.{Bool, true, false}
@@ -8,13 +8,13 @@ use native.Mathlib.Omega.{arith}
 use lib.Dec.{eqb}
 use lib.ListN.{length}
 use borrow.Author.Tests.{eqb-true, eqb-false}
-use Rattle.source.specs.Bytes.{whether}
+use Rattle.prelude.specs.Choice.{whether}
 use Rattle.source.specs.Kinds
 use Rattle.source.specs.declared.Token.{Token}
 use Rattle.source.specs.Tokens.{tokenAt, operatorAt, failureAt}
 use Rattle.source.proofs.Bounds.{Lies, token-lies, operator-lies}
-use Rattle.syntax.specs.Parse.{Got, andThen, failAt, within, is, expect, repeatBy, repeat, parted}
-use Rattle.syntax.specs.Parse.Got.{got, failed}
+use Rattle.grammar.specs.Parse.{Got, andThen, failAt, within, is, expect, repeatBy, repeat, separated}
+use Rattle.grammar.specs.Parse.Got.{got, failed}
 use Rattle.parsing_laws.proofs.Parsed.Choices.{choice, Some, there, nothing, if-some}
 use Rattle.parsing_laws.proofs.Parsed.Words.{IsWord, token-word, operator-word}
 
@@ -162,10 +162,10 @@ module _ {source : List ℕ} {A : Type 0} {P : A → Type 0} where
   unfolding repeat
   repeated more h done p at i = repeated-by more h (length source) done p at i
 
-  pub some-parted : (separator : ℕ) (first : ℕ → Got A) (more : A → ℕ → Got A) → Parses source P first → ((done : A) → P done → Parses source P (more done))
-      → Parses source P (parted source separator first more)
-  unfolding parted
-  some-parted separator first more start h at i =
+  pub some-separated : (separator : ℕ) (first : ℕ → Got A) (more : A → ℕ → Got A) → Parses source P first → ((done : A) → P done → Parses source P (more done))
+      → Parses source P (separated source separator first more)
+  unfolding separated
+  some-separated separator first more start h at i =
       and-then (start at i) (repeated _ (λ done p m j.
       choice (Some (Parsed source P)) (is separator (tokenAt source m)) _ _
       (λ e. there (h done p (tokenAt source m .next) (token-held source j .after))) (λ e. nothing)))

@@ -1,4 +1,4 @@
--- A program, and the theorems that the walk gives. Assumes nothing.
+-- A program, and the theorems that the walk gives.
 use Prim.Native.Nat.{ℕ, _≤_, _<_}
 use mathlib.Core.Path.{_≡_, refl}
 use mathlib.Core.List.{List}
@@ -7,11 +7,11 @@ use lib.Dec.{leb}
 use lib.ListN.{length}
 use borrow.Author.Tests.{leb-true, leb-false}
 use Rattle.source.specs.Kinds
-use Rattle.syntax.specs.Tree.{Program}
-use Rattle.syntax.specs.Parse.{Got}
-use Rattle.syntax.specs.Parse.Got.{got, failed}
-use Rattle.syntax.specs.Program.{parseProgram}
-use Rattle.emission.specs.Compile.{Compiled, Result, resultOf, compileDef}
+use Rattle.tree.specs.Tree.{Program}
+use Rattle.grammar.specs.Parse.{Got}
+use Rattle.grammar.specs.Parse.Got.{got, failed}
+use Rattle.grammar.specs.Program.{parseProgram}
+use Rattle.compilation.specs.Compile.{Compiled, Result, resultOf, compileDef}
 use Rattle.parsing_laws.specs.Numbered.{Numbered, FailuresNumbered}
 use Rattle.parsing_laws.specs.WellFormed.{WellFormed, AcceptedWellFormed}
 use Rattle.parsing_laws.proofs.Parsed.Choices.{choice}

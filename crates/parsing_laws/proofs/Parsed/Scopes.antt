@@ -1,22 +1,22 @@
--- What the state after some declarations has declared: names, kinds and words agree. Assumes nothing.
+-- What the allocation after some declarations has declared: names, kinds and words agree.
 use Prim.Native.Nat.{ℕ, zero, suc, _+_, _≤_}
 use mathlib.Core.Path.{_≡_, refl, ap, sym, _∙_}
 use mathlib.Core.List.{List, [], _∷_, _++_, foldl-append, append-assoc}
 use native.Mathlib.Omega.{arith}
 use lib.ListN.{length, getD, length-append}
 use lib.Seq.{getD-append-seam}
-use Rattle.syntax.specs.Tree.{Id, Name, Item, Declaration}
-use Rattle.syntax.specs.Symbols.{Symbol, Level, Scope, Names, nextId, itemSymbol, wordsTaken, declare, declareItem}
-use Rattle.syntax.specs.State.{start, step, stateAfter}
+use Rattle.tree.specs.Tree.{Id, Name, Item, Declaration}
+use Rattle.tree.specs.Symbols.{Symbol, Level, Scope, Names, nextId, itemSymbol, wordsTaken, declare, declareItem}
+use Rattle.layout.specs.Allocation.{start, allocate, allocated}
 use Rattle.parsing_laws.specs.WellFormed.{Kind, Context, IdOk, itemKinds, kindsOf, DeclarationOk, DeclarationsOk, none, more}
 use Rattle.parsing_laws.proofs.Parsed.Choices.{last, row}
 use Rattle.parsing_laws.proofs.Parsed.Names.{SymbolOk, NamesOk}
 
 -- ---- One declaration more
 
-state-snoc : (ds : List Declaration) (d : Declaration) → stateAfter (ds ++ (d ∷ [])) ≡ step (stateAfter ds) d
-unfolding stateAfter
-state-snoc ds d = foldl-append step start ds (d ∷ [])
+state-snoc : (ds : List Declaration) (d : Declaration) → allocated (ds ++ (d ∷ [])) ≡ allocate (allocated ds) d
+unfolding allocated
+state-snoc ds d = foldl-append allocate start ds (d ∷ [])
 
 pub kinds-append : (ds es : List Declaration) → kindsOf (ds ++ es) ≡ kindsOf ds ++ kindsOf es
 unfolding kindsOf
@@ -70,26 +70,26 @@ module _ (ks : List Kind) (y : Context) (extends : Extends ks (y .globals)) wher
 pub own-names : (ks : List Kind) (p l : ℕ) {names : Names} → NamesOk (outer ks) names → NamesOk (record { globals = ks; own = p; locals = l }) names
 own-names ks p l h = names-wider ks (record { globals = ks; own = p; locals = l }) (λ n k some e. e) h
 
--- ---- The state after declarations
+-- ---- The allocation after declarations
 
 pub record Declared (ds : List Declaration) : Type 0 where
-  pub level : stateAfter ds .scope .level ≡ Level.outer
-  pub words : stateAfter ds .scope .words ≡ length (kindsOf ds)
-  pub few : stateAfter ds .scope .words ≤ 384
-  pub names : NamesOk (outer (kindsOf ds)) (stateAfter ds .scope .names)
+  pub level : allocated ds .scope .level ≡ Level.outer
+  pub taken : allocated ds .scope .taken ≡ length (kindsOf ds)
+  pub few : allocated ds .scope .taken ≤ 384
+  pub names : NamesOk (outer (kindsOf ds)) (allocated ds .scope .names)
 
 -- a name that takes the next word of a kind, or none
 record Taken (sc : Scope) (ks : List Kind) (next : Scope) (new : List Kind) : Type 0 where
   level : next .level ≡ sc .level
-  words : next .words ≡ sc .words + length new
-  few : sc .words + length new ≤ 384
+  taken : next .taken ≡ sc .taken + length new
+  few : sc .taken + length new ≤ 384
   names : NamesOk (outer ks) (sc .names) → NamesOk (outer (ks ++ new)) (next .names)
 
-one-more : (ds : List Declaration) (d : Declaration) → Declared ds → Taken (stateAfter ds .scope) (kindsOf ds) (step (stateAfter ds) d .scope) (kindsOf (d ∷ []))
+one-more : (ds : List Declaration) (d : Declaration) → Declared ds → Taken (allocated ds .scope) (kindsOf ds) (allocate (allocated ds) d .scope) (kindsOf (d ∷ []))
     → Declared (ds ++ (d ∷ []))
 one-more ds d known t = record {
   level = rw state-snoc (t .level ∙ known .level);
-  words = rw (state-snoc, kinds-append, length-append) (omega arith);
+  taken = rw (state-snoc, kinds-append, length-append) (omega arith);
   few = rw state-snoc (omega arith);
   names = rw (state-snoc, kinds-append) (t .names (known .names));
 }
@@ -98,36 +98,36 @@ one-more ds d known t = record {
 next-kind : (ks : List Kind) (k : Kind) (n : ℕ) → n ≡ length ks → getD (ks ++ (k ∷ [])) n Kind.none ≡ k
 next-kind ks k n e = rw e (getD-append-seam ks k [] Kind.none)
 
--- a name that is declared takes the words of its symbol
-name-taken : (sc : Scope) (ks new : List Kind) (name : Name) (s : Symbol) → wordsTaken s ≡ length new → sc .words + length new ≤ 384
-    → SymbolOk (outer (ks ++ new)) s → Taken sc ks (declare sc name s) new
+-- a name that is declared takes its words
+name-taken : (sc : Scope) (ks new : List Kind) (name : Name) (s : Symbol) (taken : ℕ) → taken ≡ length new → sc .taken + length new ≤ 384
+    → SymbolOk (outer (ks ++ new)) s → Taken sc ks (declare sc name s taken) new
 unfolding declare
-name-taken sc ks new name s w few p =
-    record { level = refl; words = rw w; few = few; names = λ ns. row p (names-wider ks (outer (ks ++ new)) (append-extends ks new) ns) }
+name-taken sc ks new name s taken w few p =
+    record { level = refl; taken = rw w; few = few; names = λ ns. row p (names-wider ks (outer (ks ++ new)) (append-extends ks new) ns) }
 
 module _ (ds : List Declaration) (known : Declared ds) where
   abbrev sc : Scope
-  sc = stateAfter ds .scope
+  sc = allocated ds .scope
 
   abbrev ks : List Kind
   ks = kindsOf ds
 
-  cell-ok : IdOk (outer (ks ++ (Kind.cell ∷ []))) (nextId (sc .level) (sc .words))
+  cell-ok : IdOk (outer (ks ++ (Kind.cell ∷ []))) (nextId (sc .level) (sc .taken))
   unfolding nextId
-  cell-ok = rw (known .level) (next-kind ks Kind.cell (sc .words) (known .words))
+  cell-ok = rw (known .level) (next-kind ks Kind.cell (sc .taken) (known .taken))
 
-  taken : (d : Declaration) → DeclarationOk (stateAfter ds) ks d → Taken sc ks (step (stateAfter ds) d .scope) (kindsOf (d ∷ []))
-  unfolding step declareItem itemSymbol wordsTaken kindsOf
-  taken (Declaration.item name Item.integer) h = name-taken sc ks _ name _ refl (h .1) cell-ok
-  taken (Declaration.item name (Item.constant v)) h = name-taken sc ks _ name _ refl (h .1) (cell-ok, h .0)
-  taken (Declaration.item name (Item.compconstant v)) h = name-taken sc ks _ name _ refl (h .1) (h .0)
-  taken (Declaration.array name size values) h = name-taken sc ks _ name _ refl (omega arith) (next-kind ks (Kind.array size) (sc .words) (known .words))
+  taken : (d : Declaration) → DeclarationOk (allocated ds) ks d → Taken sc ks (allocate (allocated ds) d .scope) (kindsOf (d ∷ []))
+  unfolding allocate declareItem itemSymbol wordsTaken kindsOf
+  taken (Declaration.item name Item.integer) h = name-taken sc ks _ name _ _ refl (h .1) cell-ok
+  taken (Declaration.item name (Item.constant v)) h = name-taken sc ks _ name _ _ refl (h .1) (cell-ok, h .0)
+  taken (Declaration.item name (Item.compconstant v)) h = name-taken sc ks _ name _ _ refl (h .1) (h .0)
+  taken (Declaration.array name size values) h = name-taken sc ks _ name _ _ refl (omega arith) (next-kind ks (Kind.array size) (sc .taken) (known .taken))
   taken (Declaration.procedure name accumulator locals body) h =
-      name-taken sc ks _ name _ refl (omega arith) (next-kind ks Kind.procedure (sc .words) (known .words))
+      name-taken sc ks _ name _ _ refl (omega arith) (next-kind ks Kind.procedure (sc .taken) (known .taken))
   taken Declaration.nextSector h =
-      record { level = refl; words = omega arith; few = omega arith; names = λ ns. names-wider ks (outer (ks ++ [])) (append-extends ks []) ns }
+      record { level = refl; taken = omega arith; few = omega arith; names = λ ns. names-wider ks (outer (ks ++ [])) (append-extends ks []) ns }
 
 pub declared : {ds : List Declaration} → DeclarationsOk ds → Declared ds
-unfolding stateAfter kindsOf
-declared none = record { level = refl; words = refl; few = omega arith; names = last }
+unfolding allocated kindsOf
+declared none = record { level = refl; taken = refl; few = omega arith; names = last }
 declared (more ds d h ok) = let k = declared h in one-more ds d k (taken ds k d ok)

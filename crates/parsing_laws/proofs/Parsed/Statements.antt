@@ -1,20 +1,20 @@
--- Statements. Assumes nothing.
+-- Statements.
 use Prim.Native.Nat.{ℕ, zero, suc}
 use mathlib.Core.Path.{_≡_}
 use mathlib.Core.List.{List}
 use native.Mathlib.Omega.{arith}
-use Rattle.source.specs.Bytes.{find}
+use Rattle.prelude.specs.Choice.{find}
 use Rattle.source.specs.Kinds
 use Rattle.source.specs.declared.Token.{Token}
 use Rattle.source.specs.Tokens.{tokenAt}
-use Rattle.syntax.specs.Tree.{Id, Array, Expr, Cond, Target, Stmt}
-use Rattle.syntax.specs.Symbols.{Names, asInteger, asArray, asProcedure}
-use Rattle.syntax.specs.Parse.{Got, failAt, andThen, is}
-use Rattle.syntax.specs.Cells.{refuse, nameAs}
-use Rattle.syntax.specs.Statements.{StmtStart, openings, endsStatement, stmtStart, parseAssigned, parseElement, parseSetX, parseGuarded, parseIf, parseWhen, parseBody, parseWhile, parseForInteger, parseForX, parseFor, parseStmts, parseCompound, stmtFrom, stmtBy, parseStmt, parseOutermost}
+use Rattle.tree.specs.Tree.{Id, Array, Expr, Cond, Target, Stmt}
+use Rattle.tree.specs.Symbols.{Names, asInteger, asArray, asProcedure}
+use Rattle.grammar.specs.Parse.{Got, failAt, andThen, is}
+use Rattle.grammar.specs.Cells.{refuse, nameAs}
+use Rattle.grammar.specs.Statements.{StmtStart, statementStarts, endsStatement, stmtStart, parseAssigned, parseElement, parseSetX, parseGuarded, parseIf, parseWhen, parseBody, parseWhile, parseForInteger, parseForX, parseFor, parseStmts, parseCompound, stmtFrom, stmtBy, parseStmt, parseOutermost}
 use Rattle.parsing_laws.specs.WellFormed.{Context, IdOk, ArrayOk, ProcedureOk, CondOk, StmtBy, StmtsBy, StmtOk}
 use Rattle.parsing_laws.proofs.Parsed.Choices.{Rows, last, row, row-of}
-use Rattle.parsing_laws.proofs.Parsed.Parts.{Parsed, fine, Parses, Ended, Held, token-held, fails, unless-ended, either, and-then, skipped, some-parted}
+use Rattle.parsing_laws.proofs.Parsed.Parts.{Parsed, fine, Parses, Ended, Held, token-held, fails, unless-ended, either, and-then, skipped, some-separated}
 use Rattle.parsing_laws.proofs.Parsed.Names.{NamesOk, named}
 use Rattle.parsing_laws.proofs.Parsed.Forms.{refused, subscripts, lone-cells, calls, conditions, expressions}
 
@@ -31,7 +31,7 @@ module _ (source : List ℕ) {x : Context} {names : Names} (known : NamesOk x na
   StartOk StmtStart.compound = Unit {0}
   StartOk (StmtStart.call p) = ProcedureOk x p
 
-  opening-rows : Rows (λ (k : ℕ) (s : StmtStart). StartOk s) openings
+  opening-rows : Rows (λ (k : ℕ) (s : StmtStart). StartOk s) statementStarts
   opening-rows = row tt (row tt (row tt (row tt (row tt (row tt (row tt last))))))
 
   starts : {t : Token} → Held source t → Parsed source StartOk (stmtStart source names t)
@@ -101,7 +101,7 @@ module _ (source : List ℕ) {x : Context} {names : Names} (known : NamesOk x na
 
     pub statements : Parses source (StmtsBy Q) (parseStmts source names inner)
     unfolding parseStmts
-    statements = some-parted Kinds.semicolon _ _ (λ n h. and-then (stmts n h) (λ s p m h. fine p h)) (λ done p n h. and-then (stmts n h) (λ s q m h. fine (p, q) h))
+    statements = some-separated Kinds.semicolon _ _ (λ n h. and-then (stmts n h) (λ s p m h. fine p h)) (λ done p n h. and-then (stmts n h) (λ s q m h. fine (p, q) h))
 
     compound : Parses source R (parseCompound source names inner)
     unfolding parseCompound

@@ -1,12 +1,13 @@
--- The 16 bits of a constant in figures are a word. Assumes nothing.
+-- The 16 bits of a constant in figures are a word.
 use Prim.Native.Nat.{ℕ, _<_, _≤_}
 use mathlib.Core.List.{List, [], _∷_}
 use native.Mathlib.Omega.{arith}
 use lib.Dec.{leb, eqb}
 use borrow.Author.Tests.{leb-true}
-use Rattle.source.specs.Bytes.{isLetter, isDigit, isOctalDigit, span, startsWith, find}
+use Rattle.source.specs.Bytes.{isLetter, isDigit, isOctalDigit, span, startsWith}
+use Rattle.prelude.specs.Choice.{find}
 use Rattle.source.specs.declared.Token.{Token}
-use Rattle.source.specs.Tokens.{constantToken, decimalToken, negativeToken, octalToken, wordToken, signs, signToken, tokenOf, operatorOf, afterBlanks, tokenAt, operatorAt}
+use Rattle.source.specs.Tokens.{constantToken, decimalToken, negativeToken, octalToken, keywordToken, signs, signToken, tokenOf, operatorOf, afterBlanks, tokenAt, operatorAt}
 use Rattle.parsing_laws.proofs.Parsed.Choices.{choice, if-given}
 
 abbrev pub IsWord : ℕ → Type 0
@@ -24,7 +25,7 @@ unfolding constantToken
 constant-word n limit word at width h = choice HasWord (leb n limit) _ _ (λ e. h (leb-true n limit e)) (λ e. zero-word)
 
 of-word : (bs : List ℕ) (at : ℕ) → HasWord (tokenOf bs at)
-unfolding tokenOf decimalToken negativeToken octalToken wordToken signToken
+unfolding tokenOf decimalToken negativeToken octalToken keywordToken signToken
 of-word [] at = zero-word
 of-word (b ∷ bs) at =
     choice HasWord (isLetter b) _ _ (λ e. zero-word)

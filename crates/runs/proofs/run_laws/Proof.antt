@@ -1,5 +1,4 @@
--- `runs::run_laws` meets its contract: the laws of proofs/Laws. Assumes nothing.
-use Rattle.runs.proofs.Laws.{run-laws}
+use Rattle.runs.proofs.RunLaws.{run-laws}
 use Rattle.runs.proofs.run_laws.Statement.{statement}
 use Rattle.runs.proofs.run_laws.Tie as tie
 

@@ -1,11 +1,11 @@
--- Cells of the semantics by their ids: `sameCell` is equality, and a store changes one cell only. Assumes nothing.
+-- Cells of the semantics by their ids: `sameCell` is equality, and a store changes one cell only.
 use Prim.Native.Nat.{ℕ}
 use mathlib.Core.Path.{_≡_, refl, ap, ap₂}
 use mathlib.Core.Bool.{Bool, true, false, cond}
 use lib.Dec.{eqb}
 use borrow.Author.Tests.{eqb-true, eq-eqb}
 use Rattle.instruction.proofs.Choice.{yes, no}
-use Rattle.syntax.specs.Tree.{Id, CellId, sameId, sameCell}
+use Rattle.tree.specs.Tree.{Id, CellId, sameId, sameCell}
 use Rattle.semantics.specs.Acts.{updated}
 
 both : (b d : Bool) → cond b d false ≡ true → (b ≡ true) × (d ≡ true)

@@ -1,23 +1,23 @@
--- Which instructions read, act on A and C, or skip: those that the forms are laid as. Assumes nothing.
+-- Which instructions read, act on A and C, or skip: those that the forms are laid as.
 use mathlib.Core.Path.{refl}
 use mathlib.Core.List.{List, [], _∷_}
 use mathlib.Core.Option.{Option, some, none}
 use Rattle.effect.specs.Effects.{unaryOf}
 use Rattle.effect.specs.Skips.{skipsOf}
-use Rattle.instruction.specs.Code.{LDA}
+use Rattle.instruction.specs.Opcode.{LDA}
 use Rattle.instruction.specs.Slot.{SKP, NOP, SPL, CRA, TCA}
 use Rattle.machine.specs.Step.{memoryDef, genericDef}
-use Rattle.syntax.specs.Tree.{Unary, Operator, Test, Bare}
-use Rattle.syntax.specs.Emission.{Plain, unaryPlain, operatorCode, testSlot, bareSlot}
+use Rattle.tree.specs.Tree.{Unary, Operator, Test, Bare}
+use Rattle.layout.specs.Words.{Plain, unaryPlain, operatorOpcode, testSlot, bareSlot}
 use Rattle.semantics.specs.Acts.{generic}
-use Rattle.semantics.proofs.Simulation.Orders.{Reads, ActsOn, Skips}
+use Rattle.semantics.proofs.Simulation.Instructions.{Reads, ActsOn, Skips}
 
 pub load-reads : Reads LDA
 unfolding memoryDef
 load-reads e n image = refl
 
-pub operator-reads : (o : Operator) → Reads (operatorCode o)
-unfolding memoryDef operatorCode
+pub operator-reads : (o : Operator) → Reads (operatorOpcode o)
+unfolding memoryDef operatorOpcode
 operator-reads Operator.add e n image = refl
 operator-reads Operator.subtract e n image = refl
 operator-reads Operator.and e n image = refl

@@ -1,4 +1,4 @@
--- The words after a relation's CAS: a walk over them, followed by the machine, and the six relations as one table. Assumes nothing.
+-- The words after a relation's CAS: a walk over them, followed by the machine, and the six relations as one table.
 use Prim.Native.Nat.{ℕ, zero, suc, _+_, _≤_, _<_}
 use mathlib.Core.Path.{_≡_, refl}
 use mathlib.Core.Bool.{Bool, true, false}
@@ -9,14 +9,14 @@ use native.Mathlib.Omega.{arith}
 use lib.ListN.{length}
 use Rattle.effect.specs.Skips.{skipsOf}
 use Rattle.machine.specs.State as machine
-use Rattle.syntax.specs.Tree.{Relation}
-use Rattle.syntax.specs.Emission.{Control, controls}
+use Rattle.tree.specs.Tree.{Relation}
+use Rattle.layout.specs.Words.{Control, controls}
 use Rattle.semantics.specs.Trace.{State}
 use Rattle.semantics.specs.Acts.{tick}
 use Rattle.semantics.specs.Meaning.{Order, orderOf, holds, wordsAfter, ticks}
-use Rattle.semantics.specs.Laid.{Map, Sound, LaidJump, controlSits, LaidControls}
+use Rattle.memory_map.specs.Laid.{Map, Sound, LaidJump, controlSits, LaidControls}
 use Rattle.semantics.proofs.Simulation.Relate.{Links, At}
-use Rattle.semantics.proofs.Simulation.Orders.{next, over, do-test, do-jump}
+use Rattle.semantics.proofs.Simulation.Instructions.{next, over, do-test, do-jump}
 use Rattle.semantics.proofs.Simulation.Classes.{nop-skips, skp-skips}
 
 -- ---- The walk

@@ -1,19 +1,19 @@
--- Calls, expressions and conditions, laid, are followed by the machine, by the nesting left. Assumes nothing.
+-- Calls, expressions and conditions, laid, are followed by the machine, by the nesting left.
 use Prim.Native.Nat.{ℕ, zero, suc, _+_, _≤_, _<_}
 use mathlib.Core.Path.{_≡_, _∙_}
 use mathlib.Core.List.{List}
 use native.Mathlib.Nat.{le-refl}
 use native.Mathlib.Omega.{arith}
 use Rattle.machine.specs.State as machine
-use Rattle.syntax.specs.Tree.{Expr, Term, Cond}
-use Rattle.emission.specs.Map.{Word}
+use Rattle.tree.specs.Tree.{Expr, Term, Cond}
+use Rattle.layout.specs.Map.{Role}
 use Rattle.semantics.specs.Trace.{State, Trace, bind, next}
 use Rattle.semantics.specs.Acts.{tick, jump}
 use Rattle.semantics.specs.Meaning.{Procedures, called, termBy, condBy, exprBy, exprAt}
 use Rattle.parsing_laws.specs.WellFormed.{Context, TermOk, CondOk, ExprBy, ExprOk}
-use Rattle.semantics.specs.Laid.{Map, Sound, Known, Knows, LaidCall, LaidTerm, LaidCond, LaidExpr}
+use Rattle.memory_map.specs.Laid.{Map, Sound, Known, Knows, LaidCall, LaidTerm, LaidCond, LaidExpr}
 use Rattle.semantics.proofs.Simulation.Relate.{Pending, Links, pend-same, pend-other, At, forget, lower, relax, follow}
-use Rattle.semantics.proofs.Simulation.Orders.{do-generic, do-call}
+use Rattle.semantics.proofs.Simulation.Instructions.{do-generic, do-call}
 use Rattle.semantics.proofs.Simulation.Classes.{load-reads, clear-acts, test-skips, bare-skips}
 use Rattle.semantics.proofs.Simulation.Parts.{le₁, Follows, Forks, sim-read, sim-unaries, sim-operations, sim-test, sim-relation, branch, moved, stay, then-jump}
 
@@ -27,7 +27,7 @@ IdleBut q ps κ = (r : ℕ) → Knows ps r → (q ≡ r → ⊥) → κ r ≡ Pe
 module _ (M : Map) (sound : Sound M) (s₀ : machine.State) (N fuel : ℕ) where
   -- each of the procedures ps, entered with its link pending, comes back to what the link holds
   pub record Obeys (ps : Known) (procedures : Procedures) : Type 0 where
-    pub callee : {κ : Links} {k r : ℕ} {σ : State} {m : List ℕ} (q : ℕ) → Knows ps q → k < 16384 → M k ≡ Word.link q → κ q ≡ Pending.busy r → IdleBut q ps κ
+    pub callee : {κ : Links} {k r : ℕ} {σ : State} {m : List ℕ} (q : ℕ) → Knows ps q → k < 16384 → M k ≡ Role.link q → κ q ≡ Pending.busy r → IdleBut q ps κ
         → N ≤ σ .steps + fuel → At M sound s₀ κ (suc k) σ m → Follows M sound s₀ N κ r (σ .steps) (bind (procedures q σ) jump)
 
   -- parts that may call the procedures ps, whose links are idle

@@ -1,13 +1,14 @@
--- More fuel only goes on: the trace with less fuel is a beginning of the trace with more. Assumes nothing.
+-- More fuel only goes on: the trace with less fuel is a beginning of the trace with more.
 use Prim.Native.Nat.{ℕ, zero, suc, _+_, _≤_}
 use mathlib.Core.Bool.{Bool, true, false, cond}
 use mathlib.Core.List.{List, [], _∷_}
 use native.Mathlib.Nat.{not-suc-le-zero, le-of-suc-le-suc}
 use lib.Dec.{eqb}
-use Rattle.syntax.specs.Tree.{CellId, Expr, Term, Cond, Stmt, Stmts, Declaration, Program}
+use Rattle.tree.specs.Tree.{CellId, Expr, Term, Cond, Stmt, Stmts, Declaration, Program}
 use Rattle.semantics.specs.Trace.{State, Trace, bind, next, ended}
 use Rattle.semantics.specs.Acts.{tick, xCell}
-use Rattle.semantics.specs.Meaning.{Procedures, called, chosen, whileTurns, forTurns, stmtsBy, termBy, condBy, exprBy, exprAt, bodyBy, stmtAt, globalsOf, outermost, withDeclaration, proceduresFrom, proceduresOf, meaning}
+use Rattle.semantics.specs.Meaning.{Procedures, called, chosen, whileTurns, forTurns, stmtsBy, termBy, condBy, exprBy, exprAt, bodyBy, stmtAt, outermost, withDeclaration, proceduresFrom, proceduresOf, meaning}
+use Rattle.tree.specs.Symbols.{globalsOf}
 use Rattle.semantics.specs.Agreement.{Begins}
 
 same : {A : Type 0} (t : Trace A) → Begins t t

@@ -1,4 +1,4 @@
--- The parts of forms that hold no expression or statement, laid, are followed by the machine: cells, unary words, operations, tests, relations, ends. Assumes nothing.
+-- The parts of forms that hold no expression or statement, laid, are followed by the machine: cells, unary words, operations, tests, relations, ends.
 use Prim.Native.Nat.{ℕ, zero, suc, _+_, _%_, _≤_, _<_}
 use mathlib.Core.Path.{_≡_, sym, subst}
 use mathlib.Core.Bool.{Bool, true, false}
@@ -9,21 +9,21 @@ use lib.Dec.{eqb}
 use Rattle.word.specs.Arithmetic.{compareOf}
 use Rattle.word.proofs.Bounds.{compare-below}
 use Rattle.effect.specs.Skips.{skipsOf}
-use Rattle.instruction.specs.Code.{STA, CAS, IRS, LDX}
+use Rattle.instruction.specs.Opcode.{STA, CAS, IRS, LDX}
 use Rattle.instruction.specs.Slot.{SPL}
 use Rattle.instruction.specs.declared.Instruction.the-variants.{Generic}
 use Rattle.instruction.proofs.Choice.{cond-when}
 use Rattle.machine.specs.State as machine
-use Rattle.syntax.specs.Tree.{CellId, Array, Subscript, Cell, Unary, Operation, Relation, Target}
-use Rattle.syntax.specs.Emission.{Plain, controls, targetCell}
-use Rattle.emission.specs.Map.{Word}
+use Rattle.tree.specs.Tree.{CellId, Array, Subscript, Cell, Unary, Operation, Relation, Target, isInside}
+use Rattle.layout.specs.Words.{Plain, controls, targetCell}
+use Rattle.layout.specs.Map.{Role}
 use Rattle.semantics.specs.Trace.{State, Trace, bind, next, ended}
-use Rattle.semantics.specs.Acts.{tick, xCell, Place, placeOf, valueOf, subscripted, isInside, element, entered, asPlace, reach, operate, storeA, setX, absolute, plainOn, test, jump, counted}
+use Rattle.semantics.specs.Acts.{tick, xCell, Place, placeOf, valueOf, subscripted, element, entered, asPlace, reach, operate, storeA, setX, absolute, plainOn, test, jump, counted}
 use Rattle.semantics.specs.Meaning.{unaryOn, unariesOn, operationOn, operationsOn, chosen, orderOf, wordsAfter, ticks, related, assigned}
-use Rattle.semantics.specs.Laid.{Map, Sound, Sits, Refers, ArrayWord, LaidSubscript, LaidCell, LaidOn, LaidJump, LaidPlain, LaidUnary, LaidUnaries, LaidOperations, LaidControls}
+use Rattle.memory_map.specs.Laid.{Map, Sound, Sits, Refers, ArrayWord, LaidSubscript, LaidCell, LaidOn, LaidJump, LaidPlain, LaidUnary, LaidUnaries, LaidOperations, LaidControls}
 use Rattle.semantics.proofs.Simulation.Relate.{Links, At, stands, Ok, ok-done, ok-broke, ok-observe, follow}
-use Rattle.semantics.proofs.Simulation.Orders as orders
-use Rattle.semantics.proofs.Simulation.Orders.{Located, Reads, Skips, do-generic, do-shift, do-test, do-read, do-store, do-load-x, do-jump, do-compare, do-count, located-direct, located-element}
+use Rattle.semantics.proofs.Simulation.Instructions as instructions
+use Rattle.semantics.proofs.Simulation.Instructions.{Located, Reads, Skips, do-generic, do-shift, do-test, do-read, do-store, do-load-x, do-jump, do-compare, do-count, located-direct, located-element}
 use Rattle.semantics.proofs.Simulation.Classes.{operator-reads, complement-acts, sign-skips, Acts, UnaryActs, unary-acts}
 use Rattle.semantics.proofs.Simulation.Control.{fork, skipped, order-skips, table, jump-below, within, sim-controls}
 
@@ -105,8 +105,8 @@ module _ (M : Map) (sound : Sound M) (s₀ : machine.State) (N : ℕ) where
   sim-unary {u = u} (LaidUnary.plain e k) h = rw e (sim-plain k (subst UnaryActs e (unary-acts u)) h)
   sim-unary {κ} {u} {a} {b} {σ} {m} (LaidUnary.abs e s t) h =
       rw e (cond-when (λ (τ : State). Moves κ b σ τ m) (skipsOf SPL (σ .registers) (σ .switches)) _ _
-      (λ e. (do-test M sound s₀ h sign-skips s true e (orders.over _ (t .below)), le₁ (σ .steps)))
-      (λ e. (do-generic M sound s₀ (do-test M sound s₀ h sign-skips s false e (orders.next _ (s .below))) complement-acts t, le₂ (σ .steps))))
+      (λ e. (do-test M sound s₀ h sign-skips s true e (instructions.over _ (t .below)), le₁ (σ .steps)))
+      (λ e. (do-generic M sound s₀ (do-test M sound s₀ h sign-skips s false e (instructions.next _ (s .below))) complement-acts t, le₂ (σ .steps))))
 
   pub sim-unaries : {κ : Links} {us : List Unary} {a b : ℕ} {σ : State} {m : List ℕ} → LaidUnaries M us a b → At M sound s₀ κ a σ m
       → Moves κ b σ (unariesOn us σ) m
@@ -132,8 +132,8 @@ module _ (M : Map) (sound : Sound M) (s₀ : machine.State) (N : ℕ) where
   unfolding test
   sim-test {κ} {slot} {n} {z} {σ} {m} skips s j h =
       cond-when (λ (t : Trace Bool). Forks κ (suc (suc n)) z (σ .steps) t) (skipsOf slot (σ .registers) (σ .switches)) _ _
-      (λ e. ok-done m (le₁ (σ .steps)) (do-test M sound s₀ h skips s true e (orders.over n (jump-below M sound s₀ j))))
-      (λ e. ok-done m (le₂ (σ .steps)) (do-jump M sound s₀ (do-test M sound s₀ h skips s false e (orders.next n (s .below))) j))
+      (λ e. ok-done m (le₁ (σ .steps)) (do-test M sound s₀ h skips s true e (instructions.over n (jump-below M sound s₀ j))))
+      (λ e. ok-done m (le₂ (σ .steps)) (do-jump M sound s₀ (do-test M sound s₀ h skips s false e (instructions.next n (s .below))) j))
 
   ticks-up : (n : ℕ) (σ : State) → σ .steps ≤ ticks n σ .steps
   unfolding ticks
@@ -169,13 +169,13 @@ module _ (M : Map) (sound : Sound M) (s₀ : machine.State) (N : ℕ) where
       go false σ m l h = no-way σ m l h
 
   -- IRS: on to the JMP, or past it
-  pub sim-counted : {κ : Links} {n k v : ℕ} {i : CellId} {σ : State} {m : List ℕ} (u : Unit {0}) → Refers M n IRS false k → k < 16384 → M k ≡ Word.cell i v
+  pub sim-counted : {κ : Links} {n k v : ℕ} {i : CellId} {σ : State} {m : List ℕ} (u : Unit {0}) → Refers M n IRS false k → k < 16384 → M k ≡ Role.cell i v
       → suc (suc n) < 16384 → At M sound s₀ κ n σ m → Forks κ (suc n) (suc (suc n)) (σ .steps) (counted i u σ)
   unfolding counted
   sim-counted {κ} {n} {k} {v} {i} {σ} {m} u r kb here b h =
       cond-when (λ (t : Trace Bool). Forks κ (suc n) (suc (suc n)) (σ .steps) t) (eqb ((σ .cells i + 1) % 65536) 0) _ _
-      (λ e. ok-done _ (le₁ (σ .steps)) (do-count M sound s₀ h r kb here true e (orders.over n b)))
-      (λ e. ok-done _ (le₁ (σ .steps)) (do-count M sound s₀ h r kb here false e (orders.next n (r .sits .below))))
+      (λ e. ok-done _ (le₁ (σ .steps)) (do-count M sound s₀ h r kb here true e (instructions.over n b)))
+      (λ e. ok-done _ (le₁ (σ .steps)) (do-count M sound s₀ h r kb here false e (instructions.next n (r .sits .below))))
 
   -- ---- Ends
 

@@ -1,14 +1,15 @@
--- The procedures that a program declares, laid, are followed by the machine. Assumes nothing.
+-- The procedures that a program declares, laid, are followed by the machine.
 use Prim.Native.Nat.{ℕ, _+_}
 use mathlib.Core.List.{List, [], _∷_, _++_}
 use Rattle.machine.specs.State as machine
-use Rattle.syntax.specs.Tree.{Stmts, Declaration}
-use Rattle.syntax.specs.State as syntax
+use Rattle.tree.specs.Tree.{Stmts, Declaration}
+use Rattle.layout.specs.Allocation as layout
 use Rattle.semantics.specs.Trace.{Trace}
-use Rattle.semantics.specs.Meaning.{Procedures, globalsOf, withDeclaration, proceduresFrom, proceduresOf}
+use Rattle.semantics.specs.Meaning.{Procedures, withDeclaration, proceduresFrom, proceduresOf}
+use Rattle.tree.specs.Symbols.{globalsOf}
 use Rattle.parsing_laws.specs.WellFormed.{Context, Kind, StmtsBy, StmtOk, DeclarationOk, DeclarationsOk}
-use Rattle.semantics.specs.Laid.{Map, Sound, Known, Knows, LaidProcedure, LaidProcedures}
-use Rattle.semantics.specs.Known.{withProcedure, knownFrom, knownOf}
+use Rattle.memory_map.specs.Laid.{Map, Sound, Known, Knows, LaidProcedure, LaidProcedures}
+use Rattle.memory_map.specs.KnownProcedures.{withProcedure, knownFrom, knownOf}
 use Rattle.semantics.proofs.Simulation.Expressions.{Obeys}
 use Rattle.semantics.proofs.Simulation.Statements.{obeys-none, obeys-more}
 
@@ -24,7 +25,7 @@ abbrev pub BodiesOk : List Declaration → Type 0
 BodiesOk [] = Unit {0}
 BodiesOk (d ∷ ds) = BodyOk d × BodiesOk ds
 
-body-ok : (st : syntax.State) (kinds : List Kind) (d : Declaration) → DeclarationOk st kinds d → BodyOk d
+body-ok : (st : layout.Allocation) (kinds : List Kind) (d : Declaration) → DeclarationOk st kinds d → BodyOk d
 body-ok st kinds (Declaration.item name item) h = tt
 body-ok st kinds (Declaration.array name size values) h = tt
 body-ok st kinds (Declaration.procedure name accumulator locals body) h = (_, h .2)

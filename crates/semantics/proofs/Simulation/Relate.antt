@@ -1,4 +1,15 @@
--- The relation between a state of the semantics and the machine, what a store keeps of it, and traces that the machine follows. Assumes nothing.
+-- THE SIMULATION. The machine follows the meaning of a part that is laid from p to p' (memory_map/specs/Laid): whatever the meaning does, the machine does, in as many steps as the meaning counts.
+--
+--        meaning         σ ───────── the part's acts ─────────▶ σ'
+--                        │                                      │
+--             At κ p σ m │                                      │ At κ p' σ' m'
+--                        │                                      │
+--        machine    p, memory m ── σ' .steps - σ .steps steps ─▶ p', memory m'
+--
+-- `At κ p σ m` says: the machine that started as s₀ has made σ's number of steps and stands at p, with σ's registers and switches and the memory m, each of whose words serves what the map says that it is for: a fixed word is what it was, a cell
+-- has σ's value, a link holds an address of the memory, and the link of a procedure that a call is waiting on (κ) the one to return to; a word that is not used may hold anything. κ is the same at both ends of a part: a call adds to it, and its return takes that back.
+-- Instructions and Classes move `At` on by one instruction. `Follows` and `Forks` (Parts) are the diagram for a part and for a condition. `Ok` carries it along a trace, to every observation, to a break-off and to the end, and `follow` joins one part to the next:
+-- so each form is a few lines (Expressions, Statements).
 use Prim.Native.Nat.{ℕ, suc, _≤_, _<_}
 use mathlib.Core.Path.{_≡_, refl, ap, _∙_, subst}
 use mathlib.Core.Bool.{false}
@@ -17,11 +28,11 @@ use Rattle.machine.specs.Step.{made, perform}
 use Rattle.machine.proofs.Good.{step-of}
 use Rattle.runs.specs.Steps.{Steps, none, one}
 use Rattle.runs.proofs.Iteration.{steps-join}
-use Rattle.syntax.specs.Tree.{CellId}
-use Rattle.emission.specs.Map.{Word}
+use Rattle.tree.specs.Tree.{CellId}
+use Rattle.layout.specs.Map.{Role}
 use Rattle.semantics.specs.Trace.{State, Trace, bind}
 use Rattle.semantics.specs.Acts.{updated}
-use Rattle.semantics.specs.Laid.{Map, Sound, Sits}
+use Rattle.memory_map.specs.Laid.{Map, Sound, Sits}
 use Rattle.semantics.proofs.Simulation.Cells.{updated-same, updated-other}
 
 -- ---- Links
@@ -58,11 +69,11 @@ Fits Pending.idle v = Unit {0}
 Fits (Pending.busy u) v = v ≡ u
 
 -- the word v serves what the map says that it is for
-abbrev pub Serves : Links → (CellId → ℕ) → Word → ℕ → Type 0
-Serves κ c (Word.fixed w) v = v ≡ w
-Serves κ c (Word.cell i w) v = v ≡ c i
-Serves κ c (Word.link q) v = (v < 16384) × Fits (κ q) v
-Serves κ c Word.free v = Unit {0}
+abbrev pub Serves : Links → (CellId → ℕ) → Role → ℕ → Type 0
+Serves κ c (Role.fixed w) v = v ≡ w
+Serves κ c (Role.cell i w) v = v ≡ c i
+Serves κ c (Role.link q) v = (v < 16384) × Fits (κ q) v
+Serves κ c Role.free v = Unit {0}
 
 -- a running machine with the registers and switches of σ
 abbrev pub machineOf : State → ℕ → Machine
@@ -78,44 +89,44 @@ module _ (M : Map) (sound : Sound M) (s₀ : machine.State) where
     pub serves : (k : ℕ) → k < 16384 → Serves κ (σ .cells) (M k) (getD m k 0)
 
   pub peek : {κ : Links} {p : ℕ} {σ : State} {m : List ℕ} → At κ p σ m
-      → (k : ℕ) (w : Word) → k < 16384 → M k ≡ w → Serves κ (σ .cells) w (getD m k 0)
-  peek {κ} {p} {σ} {m} h k w b e = subst (λ (j : Word). Serves κ (σ .cells) j (getD m k 0)) e (h .serves k b)
+      → (k : ℕ) (w : Role) → k < 16384 → M k ≡ w → Serves κ (σ .cells) w (getD m k 0)
+  peek {κ} {p} {σ} {m} h k w b e = subst (λ (j : Role). Serves κ (σ .cells) j (getD m k 0)) e (h .serves k b)
 
   -- one instruction done
   pub stepped : {κ : Links} {a : ℕ} {σ : State} {m : List ℕ} {i : Instruction} {u : machine.State} → At κ a σ m → Sits M a i
       → perform (machineOf σ a) m i ≡ made u → Steps (suc (σ .steps)) s₀ u
   stepped {κ} {a} {σ} {m} {i} {u} h s e =
-      let w : getD m a 0 ≡ s .word = peek h a (Word.fixed (s .word)) (omega (arith, s .below)) (s .here) in
+      let w : getD m a 0 ≡ s .word = peek h a (Role.fixed (s .word)) (omega (arith, s .below)) (s .here) in
       let d = step-of (machineOf σ a) m (ap decodeDef w ∙ s .decodes) ∙ e in
       rw add-one at (steps-join (h .made) (one refl d none))
 
   -- a store to the word of cell i changes that cell only
-  pub stored : {κ : Links} {p : ℕ} {σ : State} {m : List ℕ} → At κ p σ m → (e : ℕ) (i : CellId) (v w : ℕ) → e < 16384 → M e ≡ Word.cell i w
+  pub stored : {κ : Links} {p : ℕ} {σ : State} {m : List ℕ} → At κ p σ m → (e : ℕ) (i : CellId) (v w : ℕ) → e < 16384 → M e ≡ Role.cell i w
       → (k : ℕ) → k < 16384 → Serves κ (updated (σ .cells) i v) (M k) (getD (set m e v) k 0)
   stored {κ} {p} {σ} {m} h e i v w b here k kb = go (ℕ-discrete k e)
     where
-      other : (it : Word) → (k ≡ e → ⊥) → M k ≡ it → Serves κ (updated (σ .cells) i v) it (getD (set m e v) k 0)
-      other (Word.fixed u) n it = rw (getD-set-other m e k v 0 n) (peek h k (Word.fixed u) kb it)
-      other (Word.cell j u) n it =
-          rw (getD-set-other m e k v 0 n, updated-other (σ .cells) i j v (λ q. n (sound .once k e j u w it (here ∙ ap (λ (c : CellId). Word.cell c w) q)))) (peek h k (Word.cell j u) kb it)
-      other (Word.link q) n it = rw (getD-set-other m e k v 0 n) (peek h k (Word.link q) kb it)
-      other Word.free n it = tt
+      other : (it : Role) → (k ≡ e → ⊥) → M k ≡ it → Serves κ (updated (σ .cells) i v) it (getD (set m e v) k 0)
+      other (Role.fixed u) n it = rw (getD-set-other m e k v 0 n) (peek h k (Role.fixed u) kb it)
+      other (Role.cell j u) n it =
+          rw (getD-set-other m e k v 0 n, updated-other (σ .cells) i j v (λ q. n (sound .once k e j u w it (here ∙ ap (λ (c : CellId). Role.cell c w) q)))) (peek h k (Role.cell j u) kb it)
+      other (Role.link q) n it = rw (getD-set-other m e k v 0 n) (peek h k (Role.link q) kb it)
+      other Role.free n it = tt
 
       go : Dec (k ≡ e) → Serves κ (updated (σ .cells) i v) (M k) (getD (set m e v) k 0)
       go (yes q) = rw (q, here, getD-set-same m e v 0 (omega (arith, h .size)), updated-same) refl
       go (no n) = other (M k) n refl
 
   -- a store to the word of a link makes it pending
-  pub linked : {κ : Links} {p : ℕ} {σ : State} {m : List ℕ} → At κ p σ m → (e q v : ℕ) → e < 16384 → M e ≡ Word.link q → v < 16384
+  pub linked : {κ : Links} {p : ℕ} {σ : State} {m : List ℕ} → At κ p σ m → (e q v : ℕ) → e < 16384 → M e ≡ Role.link q → v < 16384
       → (k : ℕ) → k < 16384 → Serves (pend κ q v) (σ .cells) (M k) (getD (set m e v) k 0)
   linked {κ} {p} {σ} {m} h e q v b here vb k kb = go (ℕ-discrete k e)
     where
-      other : (it : Word) → (k ≡ e → ⊥) → M k ≡ it → Serves (pend κ q v) (σ .cells) it (getD (set m e v) k 0)
-      other (Word.fixed u) n it = rw (getD-set-other m e k v 0 n) (peek h k (Word.fixed u) kb it)
-      other (Word.cell j u) n it = rw (getD-set-other m e k v 0 n) (peek h k (Word.cell j u) kb it)
-      other (Word.link r) n it =
-          rw (getD-set-other m e k v 0 n, pend-other κ q r v (λ s. n (sound .link-once k e r it (here ∙ ap Word.link s)))) (peek h k (Word.link r) kb it)
-      other Word.free n it = tt
+      other : (it : Role) → (k ≡ e → ⊥) → M k ≡ it → Serves (pend κ q v) (σ .cells) it (getD (set m e v) k 0)
+      other (Role.fixed u) n it = rw (getD-set-other m e k v 0 n) (peek h k (Role.fixed u) kb it)
+      other (Role.cell j u) n it = rw (getD-set-other m e k v 0 n) (peek h k (Role.cell j u) kb it)
+      other (Role.link r) n it =
+          rw (getD-set-other m e k v 0 n, pend-other κ q r v (λ s. n (sound .link-once k e r it (here ∙ ap Role.link s)))) (peek h k (Role.link r) kb it)
+      other Role.free n it = tt
 
       go : Dec (k ≡ e) → Serves (pend κ q v) (σ .cells) (M k) (getD (set m e v) k 0)
       go (yes s) = rw (s, here, getD-set-same m e v 0 (omega (arith, h .size)), pend-same) (vb, refl)
@@ -125,15 +136,15 @@ module _ (M : Map) (sound : Sound M) (s₀ : machine.State) where
   pub forget : {κ : Links} {p : ℕ} {σ : State} {m : List ℕ} (q v : ℕ) → κ q ≡ Pending.idle → At (pend κ q v) p σ m → At κ p σ m
   forget {κ} {p} {σ} {m} q v was h = record { made = h .made; size = h .size; serves = λ k kb. go k kb (M k) refl }
     where
-      link-at : (k r : ℕ) → k < 16384 → M k ≡ Word.link r → Dec (q ≡ r) → Fits (κ r) (getD m k 0)
+      link-at : (k r : ℕ) → k < 16384 → M k ≡ Role.link r → Dec (q ≡ r) → Fits (κ r) (getD m k 0)
       link-at k r kb it (yes e) = rw (← e, was) tt
-      link-at k r kb it (no n) = rw (pend-other κ q r v n) at (peek h k (Word.link r) kb it .1)
+      link-at k r kb it (no n) = rw (pend-other κ q r v n) at (peek h k (Role.link r) kb it .1)
 
-      go : (k : ℕ) → k < 16384 → (it : Word) → M k ≡ it → Serves κ (σ .cells) (M k) (getD m k 0)
-      go k kb (Word.fixed w) it = rw it (peek h k (Word.fixed w) kb it)
-      go k kb (Word.cell i w) it = rw it (peek h k (Word.cell i w) kb it)
-      go k kb (Word.link r) it = rw it (peek h k (Word.link r) kb it .0, link-at k r kb it (ℕ-discrete q r))
-      go k kb Word.free it = rw it tt
+      go : (k : ℕ) → k < 16384 → (it : Role) → M k ≡ it → Serves κ (σ .cells) (M k) (getD m k 0)
+      go k kb (Role.fixed w) it = rw it (peek h k (Role.fixed w) kb it)
+      go k kb (Role.cell i w) it = rw it (peek h k (Role.cell i w) kb it)
+      go k kb (Role.link r) it = rw it (peek h k (Role.link r) kb it .0, link-at k r kb it (ℕ-discrete q r))
+      go k kb Role.free it = rw it tt
 
   -- ---- Traces
 

@@ -1,4 +1,4 @@
--- Loops, statements and procedures, laid, are followed by the machine: statements by the nesting left, procedures one after the other. Assumes nothing.
+-- Loops, statements and procedures, laid, are followed by the machine: statements by the nesting left, procedures one after the other.
 use Prim.Native.Nat.{ℕ, zero, suc, _+_, _≤_, _<_}
 use mathlib.Core.Path.{_≡_, refl, sym, subst, _∙_}
 use mathlib.Core.Bool.{Bool, false, cond}
@@ -7,18 +7,18 @@ use native.Mathlib.Nat.{le-refl}
 use native.Mathlib.Omega.{arith}
 use lib.Dec.{eqb}
 use borrow.Author.Tests.{eqb-true, eqb-false}
-use Rattle.instruction.specs.Code.{IRS}
+use Rattle.instruction.specs.Opcode.{IRS}
 use Rattle.instruction.proofs.Choice.{cond-when}
 use Rattle.machine.specs.State as machine
-use Rattle.syntax.specs.Tree.{CellId, Expr, Cond, Stmt, Stmts}
-use Rattle.emission.specs.Map.{Word}
+use Rattle.tree.specs.Tree.{CellId, Expr, Cond, Stmt, Stmts}
+use Rattle.layout.specs.Map.{Role}
 use Rattle.semantics.specs.Trace.{State, Trace, bind, next}
 use Rattle.semantics.specs.Acts.{tick, placeOf, storeA, jump}
 use Rattle.semantics.specs.Meaning.{Procedures, called, whileTurns, forTurns, stmtsBy, condBy, exprAt, bodyBy, stmtAt, outermost}
 use Rattle.parsing_laws.specs.WellFormed.{Context, CondOk, IsEmpty, ExprOk, StmtsBy, StmtBy, StmtOk}
-use Rattle.semantics.specs.Laid.{Map, Sound, Refers, Direct, Known, Knows, LaidJump, LaidCall, LaidCond, LaidStmt, LaidStmts, LaidProcedure}
+use Rattle.memory_map.specs.Laid.{Map, Sound, Refers, Direct, Known, Knows, LaidJump, LaidCall, LaidCond, LaidStmt, LaidStmts, LaidProcedure}
 use Rattle.semantics.proofs.Simulation.Relate.{Pending, Links, At, stands, ok-done, ok-out, lower, follow}
-use Rattle.semantics.proofs.Simulation.Orders.{do-store, do-jump, do-return, located-direct}
+use Rattle.semantics.proofs.Simulation.Instructions.{do-store, do-jump, do-return, located-direct}
 use Rattle.semantics.proofs.Simulation.Control.{jump-below}
 use Rattle.semantics.proofs.Simulation.Parts.{le₁, Follows, Forks, sim-set-x, sim-assigned, sim-counted, branch, moved, stay, then-jump, at-end}
 use Rattle.semantics.proofs.Simulation.Expressions.{Idle, IdleBut, Obeys, ExprsFollow, sim-call, sim-cond, sim-expr-at}
@@ -45,7 +45,7 @@ module _ (M : Map) (sound : Sound M) (s₀ : machine.State) (N fuel : ℕ) where
 
   sim-for : {κ : Links} {p n k v : ℕ} {i : CellId} {body : State → Trace (Unit {0})} (g : ℕ) → g ≤ fuel
       → ((σ : State) (m : List ℕ) → N ≤ σ .steps + fuel → At M sound s₀ κ p σ m → Follows M sound s₀ N κ n (σ .steps) (body σ))
-      → Refers M n IRS false k → k < 16384 → M k ≡ Word.cell i v → LaidJump M (suc n) p
+      → Refers M n IRS false k → k < 16384 → M k ≡ Role.cell i v → LaidJump M (suc n) p
       → (σ : State) (m : List ℕ) → N ≤ σ .steps + g → At M sound s₀ κ p σ m → Follows M sound s₀ N κ (suc (suc n)) (σ .steps) (forTurns g i body σ)
   unfolding forTurns
   sim-for zero gf body r b e j σ m l h = let n : N ≤ σ .steps = omega arith in ok-out (le-refl _) n (stands M sound s₀ h)
@@ -143,7 +143,7 @@ module _ (M : Map) (sound : Sound M) (s₀ : machine.State) (N fuel : ℕ) where
 
   -- a procedure's body and its return
   sim-procedure : (x : Context) {κ : Links} {k q r : ℕ} {ps : Known} {procedures : Procedures} {body : Stmts} {σ : State} {m : List ℕ}
-      → Obeys M sound s₀ N fuel ps procedures → StmtsBy (StmtOk x 33) body → LaidProcedure M ps q body → k < 16384 → M k ≡ Word.link q
+      → Obeys M sound s₀ N fuel ps procedures → StmtsBy (StmtOk x 33) body → LaidProcedure M ps q body → k < 16384 → M k ≡ Role.link q
       → κ q ≡ Pending.busy r → Idle ps κ → N ≤ σ .steps + fuel → At M sound s₀ κ (suc k) σ m
       → Follows M sound s₀ N κ r (σ .steps) (bind (outermost procedures fuel body σ) jump)
   unfolding jump
@@ -151,7 +151,7 @@ module _ (M : Map) (sound : Sound M) (s₀ : machine.State) (N fuel : ℕ) where
       let same : k ≡ p .link = sound .link-once k (p .link) q here (p .item) in
       let start : At M sound s₀ κ (suc (p .link)) σ m = subst (λ (n : ℕ). At M sound s₀ κ (suc n) σ m) same h in
       let below : p .link < 16384 = subst (λ (n : ℕ). n < 16384) same kb in
-      follow M sound s₀ (sim-outermost x ps procedures obeys κ idle body o (p .code) σ m l start)
+      follow M sound s₀ (sim-outermost x ps procedures obeys κ idle body o (p .statements) σ m l start)
       (λ u σ₁ m₁ l₁ h₁. ok-done m₁ (le₁ (σ₁ .steps)) (do-return M sound s₀ h₁ (p .return) below (p .item) e))
 
   -- no procedure
@@ -168,7 +168,7 @@ module _ (M : Map) (sound : Sound M) (s₀ : machine.State) (N fuel : ℕ) where
       → Obeys M sound s₀ N fuel ((n, body) ∷ ps) (λ q σ. cond (eqb q n) (outermost procedures fuel body σ) (procedures q σ))
   obeys-more x {n} {ps} {procedures} {body} obeys o p fresh = record { callee = pick }
     where
-      pick : {κ : Links} {k r : ℕ} {σ : State} {m : List ℕ} (q : ℕ) → Knows ((n, body) ∷ ps) q → k < 16384 → M k ≡ Word.link q → κ q ≡ Pending.busy r
+      pick : {κ : Links} {k r : ℕ} {σ : State} {m : List ℕ} (q : ℕ) → Knows ((n, body) ∷ ps) q → k < 16384 → M k ≡ Role.link q → κ q ≡ Pending.busy r
           → IdleBut q ((n, body) ∷ ps) κ → N ≤ σ .steps + fuel → At M sound s₀ κ (suc k) σ m
           → Follows M sound s₀ N κ r (σ .steps) (bind (cond (eqb q n) (outermost procedures fuel body σ) (procedures q σ)) jump)
       pick {κ} {k} {r} {σ} {m} q knows kb here e idle l h =

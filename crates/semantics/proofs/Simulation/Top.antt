@@ -1,4 +1,4 @@
--- Demand 3 for every program that is laid: it agrees with its meaning under every list of runs. Assumes nothing.
+-- Demand 3 for every program that is laid: it agrees with its meaning under every list of runs.
 use Prim.Native.Nat.{ℕ, suc, _≤_, _<_}
 use mathlib.Core.Path.{_≡_, refl, ap, subst, _∙_}
 use mathlib.Core.Bool.{false}
@@ -12,18 +12,18 @@ use Rattle.machine.specs.State as machine
 use Rattle.runs.specs.Steps.{Steps}
 use Rattle.runs.specs.Runs.{Total, Comes}
 use Rattle.runs.proofs.Lists as runs
-use Rattle.syntax.specs.Tree.{CellId}
-use Rattle.emission.specs.Map.{Word, initial, mapOf, imageOf}
-use Rattle.emission.specs.Compile.{Compiled}
+use Rattle.tree.specs.Tree.{CellId}
+use Rattle.layout.specs.Map.{Role, initial, mapOf, imageOf, Home, mapAt}
+use Rattle.compilation.specs.Compile.{Compiled}
 use Rattle.semantics.specs.Trace.{State, Trace}
 use Rattle.semantics.specs.Meaning.{meaning}
-use Rattle.semantics.specs.Variables.{variablesOf}
-use Rattle.semantics.specs.Agreement.{Loaded, Holds, Shows, Home, Observes, Ends, Breaks, RunsOut, Rising, Meets, AllMade, HaltsAfter, ListEnds, Agrees}
+use Rattle.tree.specs.Variables.{variablesOf}
+use Rattle.semantics.specs.Agreement.{Loaded, Holds, Shows, Observes, Ends, Breaks, RunsOut, Rising, Meets, AllMade, HaltsAfter, ListEnds, Agrees}
 use Rattle.parsing_laws.specs.WellFormed.{WellFormed}
-use Rattle.semantics.specs.Laid.{LaidProgram}
-use Rattle.semantics.specs.Known.{knownOf, mapAt}
+use Rattle.memory_map.specs.Laid.{LaidProgram}
+use Rattle.memory_map.specs.KnownProcedures.{knownOf}
 use Rattle.semantics.proofs.Simulation.Relate.{Pending, Links, Serves, machineOf, At, peek, Stands, stands, ok-done, ok-broke, ok-out, ok-observe}
-use Rattle.semantics.proofs.Simulation.Orders.{do-halt}
+use Rattle.semantics.proofs.Simulation.Instructions.{do-halt}
 use Rattle.semantics.proofs.Simulation.Parts.{Follows}
 use Rattle.semantics.proofs.Simulation.Statements.{sim-outermost}
 use Rattle.semantics.proofs.Simulation.Procedures.{obeys-all}
@@ -60,7 +60,7 @@ module _ (c : Compiled) (is : c .image ≡ imageOf (c .program)) (well : WellFor
 
   image-word : (k : ℕ) → getD (c .image) k 0 ≡ initial (mapAt (c .program) k)
   unfolding imageOf
-  image-word k = ap (λ (l : List ℕ). getD l k 0) is ∙ List·getD-map initial (mapOf (c .program)) k Word.free
+  image-word k = ap (λ (l : List ℕ). getD l k 0) is ∙ List·getD-map initial (mapOf (c .program)) k Role.free
 
   begun : Steps (σ .steps) s (machine.state (machineOf σ (c .entry)) (s .image))
   begun = rw (loaded .start .begins, ← loaded .registers, ← loaded .switches, ← loaded .entry, ← loaded .running) Steps.none
@@ -72,12 +72,12 @@ module _ (c : Compiled) (is : c .image ≡ imageOf (c .program)) (well : WellFor
     serves = λ k b. serve k (mapAt (c .program) k) (image-word k) (loaded .image k b);
   }
     where
-      serve : (k : ℕ) (w : Word) → getD (c .image) k 0 ≡ initial w → Holds σ w (getD (c .image) k 0) (getD (s .image) k 0)
+      serve : (k : ℕ) (w : Role) → getD (c .image) k 0 ≡ initial w → Holds σ w (getD (c .image) k 0) (getD (s .image) k 0)
           → Serves idle (σ .cells) w (getD (s .image) k 0)
-      serve k (Word.fixed w) e h = h ∙ e
-      serve k (Word.cell i v) e h = h
-      serve k (Word.link q) e h = let z : getD (s .image) k 0 ≡ 0 = h ∙ e in (omega arith, tt)
-      serve k Word.free e h = tt
+      serve k (Role.fixed w) e h = h ∙ e
+      serve k (Role.cell i v) e h = h
+      serve k (Role.link q) e h = let z : getD (s .image) k 0 ≡ 0 = h ∙ e in (omega arith, tt)
+      serve k Role.free e h = tt
 
   abbrev Followed : ℕ → ℕ → Trace (Unit {0}) → Type 0
   Followed N low t = Follows (mapAt (c .program)) (laid .sound) s N idle (laid .last) low t
@@ -88,7 +88,7 @@ module _ (c : Compiled) (is : c .image ≡ imageOf (c .program)) (well : WellFor
       ok-observe (le-refl _) (stands (mapAt (c .program)) (laid .sound) s start)
       (sim-outermost (mapAt (c .program)) (laid .sound) s f f _ _ _
       (obeys-all (mapAt (c .program)) (laid .sound) s f f (c .program .declarations) (well .declarations) (laid .procedures))
-      idle (λ r k. refl) (c .program .main) (well .main) (laid .code) σ (s .image) (omega arith) start)
+      idle (λ r k. refl) (c .program .main) (well .main) (laid .statements) σ (s .image) (omega arith) start)
 
   -- ---- What a followed trace says
 
@@ -122,7 +122,7 @@ module _ (c : Compiled) (is : c .image ≡ imageOf (c .program)) (well : WellFor
 
   shows : {κ : Links} {p : ℕ} {τ : State} {m : List ℕ} → At (mapAt (c .program)) (laid .sound) s κ p τ m
       → (n : Machine) → n .registers ≡ τ .registers → Shows (c .program) τ (machine.state n m)
-  shows h n e = record { registers = e; cells = λ k i v b here. peek (mapAt (c .program)) (laid .sound) s h k (Word.cell i v) b here }
+  shows h n e = record { registers = e; cells = λ k i v b here. peek (mapAt (c .program)) (laid .sound) s h k (Role.cell i v) b here }
 
   meets : (τ : State) → Standing τ → (t : Total) → Comes s t → t .granted ≡ τ .steps → Meets (c .program) τ t
   meets τ h t (Comes.list qs) e =

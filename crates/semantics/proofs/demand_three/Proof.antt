@@ -1,4 +1,3 @@
--- `demand_three` meets its contract, by proofs/Demand/Theorem. Assumes nothing.
 use Rattle.semantics.proofs.Demand.Theorem.{demand3}
 use Rattle.semantics.proofs.demand_three.Statement.{statement}
 use Rattle.semantics.proofs.demand_three.Tie as tie

@@ -1,4 +1,3 @@
--- `start_exists` meets its contract, by proofs/Demand/Loading. Assumes nothing.
 use Rattle.semantics.proofs.Demand.Loading.{loadable}
 use Rattle.semantics.proofs.start_exists.Statement.{statement}
 use Rattle.semantics.proofs.start_exists.Tie as tie

@@ -1,4 +1,3 @@
--- `operator_of` meets its contract. Assumes nothing.
 use mathlib.Core.Path.{_∙_}
 use borrow.Author.Needs.{needs}
 use Rattle.source.proofs.Choices.{operator-ended, minus, other}

@@ -1,4 +1,3 @@
--- `token_at` meets its contract. Assumes nothing.
 use mathlib.Core.Path.{_∙_}
 use Rattle.source.specs.Tokens.{tokenOf, tokenAt}
 use Rattle.source.proofs.Choices.{after}
@@ -6,8 +5,8 @@ use borrow.Author.Needs.{needs}
 use Rattle.source.proofs.token_at.Statement.{statement}
 use Rattle.source.proofs.token_at.Tie as tie
 
-run-end-requires : tie.Need-run-end-requires
-run-end-requires c κs = search needs
+span-end-requires : tie.Need-span-end-requires
+span-end-requires c κs = search needs
 
 token-of-requires : tie.Need-token-of-requires
 token-of-requires c κs = search needs
@@ -16,7 +15,7 @@ returns : tie.Need-returns
 unfolding tokenAt
 returns c =
     let s = c .before .before .before in
-    c .token-of .ensures ∙ after tokenOf (s .args .source .now) (s .args .at) _ (c .before .run-end .ensures)
+    c .token-of .ensures ∙ after tokenOf (s .args .source .now) (s .args .at) _ (c .before .span-end .ensures)
 
 pub token-at-spec : {M : Type 1} → statement M
-token-at-spec = tie.close (tie.spec run-end-requires token-of-requires returns)
+token-at-spec = tie.close (tie.spec span-end-requires token-of-requires returns)

@@ -1,7 +1,7 @@
--- `token_of` meets its contract, by the first byte. Assumes nothing.
+-- By the first byte.
 use mathlib.Core.Path.{sym, _∙_}
 use borrow.Author.Needs.{needs}
-use Rattle.source.proofs.Choices.{ended, name, decimal, negative, octal, word, sign}
+use Rattle.source.proofs.Choices.{ended, name, decimal, negative, octal, keyword, sign}
 use Rattle.source.proofs.token_of.Statement.{statement}
 use Rattle.source.proofs.token_of.Tie as tie
 
@@ -16,18 +16,18 @@ shared-slice-read-b c = search needs
 is-in-requires : tie.Need-is-in-requires
 is-in-requires c κs = search needs
 
-add-run-end : tie.Need-add-run-end
-add-run-end c = search needs
+add-span-end : tie.Need-add-span-end
+add-span-end c = search needs
 
-run-end-requires : tie.Need-run-end-requires
-run-end-requires c κs = search needs
+span-end-requires : tie.Need-span-end-requires
+span-end-requires c κs = search needs
 
 returns-2 : tie.Need-returns-2
 returns-2 c =
-    let s = c .before .before .before .before .before .before in
-    let l = c .before .before in
     let t = c .before in
-    name (s .args .source .now) (s .args .at) (search needs) _ (sym (l .is-in .ensures) ∙ t .if2 .taken) (c .run-end .ensures)
+    let l = t .before in
+    let s = l .before .before .before .before in
+    name (s .args .source .now) (s .args .at) (search needs) _ (sym (l .is-in .ensures) ∙ t .if2 .taken) (c .span-end .ensures)
 
 is-in-requires-2 : tie.Need-is-in-requires-2
 is-in-requires-2 c κs = search needs
@@ -37,11 +37,11 @@ decimal-at-requires c κs = search needs
 
 returns-3 : tie.Need-returns-3
 returns-3 c =
-    let s = c .before .before .before .before .before .before .before .before in
-    let l = c .before .before .before .before in
-    let e = c .before .before .before in
-    let d = c .before .before in
     let t = c .before in
+    let d = t .before in
+    let e = d .before in
+    let l = e .before in
+    let s = l .before .before .before .before in
     c .decimal-at .ensures ∙ decimal (s .args .source .now) (s .args .at) (search needs) (sym (l .is-in .ensures) ∙ e .if2 .left) (sym (d .is-in2 .ensures) ∙ t .if3 .taken)
 
 negative-at-requires : tie.Need-negative-at-requires
@@ -50,8 +50,8 @@ negative-at-requires c κs = search needs
 octal-at-requires : tie.Need-octal-at-requires
 octal-at-requires c κs = search needs
 
-word-at-requires : tie.Need-word-at-requires
-word-at-requires c κs = search needs
+keyword-at-requires : tie.Need-keyword-at-requires
+keyword-at-requires c κs = search needs
 
 sign-at-requires : tie.Need-sign-at-requires
 sign-at-requires c κs = search needs
@@ -69,15 +69,15 @@ returns-5 c =
 returns-6 : tie.Need-returns-6
 returns-6 c =
     let s = c .before .before .before .before .before .before .before .before .before in
-    c .word-at .ensures ∙ word (s .args .source .now) (s .args .at) (search needs) (c .before .match .keys3)
+    c .keyword-at .ensures ∙ keyword (s .args .source .now) (s .args .at) (search needs) (c .before .match .keys3)
 
 returns-7 : tie.Need-returns-7
 returns-7 c =
-    let s = c .before .before .before .before .before .before .before .before .before in
-    let l = c .before .before .before .before .before in
-    let e = c .before .before .before .before in
-    let d = c .before .before .before in
     let t = c .before .before in
+    let d = t .before in
+    let e = d .before in
+    let l = e .before in
+    let s = l .before .before .before .before in
     let n = c .before .match .rest in
     c .sign-at .ensures ∙ sign (s .args .source .now) (s .args .at) (search needs) (sym (l .is-in .ensures) ∙ e .if2 .left) (sym (d .is-in2 .ensures) ∙ t .if3 .left) (n .0 .0 .1) (n .0 .1) (n .1)
 
@@ -88,15 +88,15 @@ token-of-spec =
     returns
     shared-slice-read-b
     is-in-requires
-    add-run-end
-    run-end-requires
+    add-span-end
+    span-end-requires
     returns-2
     is-in-requires-2
     decimal-at-requires
     returns-3
     negative-at-requires
     octal-at-requires
-    word-at-requires
+    keyword-at-requires
     sign-at-requires
     returns-4
     returns-5

@@ -1,27 +1,27 @@
 -- The proof of the cycle of calls of a statement. A level counts 4: `statement` is at its own; `guarded` and `listed`, the forms, and `form` are above the level of the statements in them.
--- The loop of `listed`: what was emitted before the next statement, and the list with it (`Before`). Assumes nothing.
+-- The loop of `listed`: what was emitted before the next statement, and the list with it (`Listed`).
 use mathlib.Core.Path.{_≡_, refl, sym, _∙_}
 use native.Mathlib.Omega.{arith}
 use borrow.Author.Needs.{needs}
 use lib.ListN.{length}
 use Rattle.expressions.proofs.Leaves.{hole-later}
-use Rattle.syntax.specs.Tree.{Target}
-use Rattle.syntax.specs.Emission.{targetCell, stmtWords}
-use Rattle.syntax.specs.Statements.{parseWhen, parseWhile, stmtFrom, parseStmts}
-use Rattle.symbols.specs.Table.{heldBy}
+use Rattle.tree.specs.Tree.{Target}
+use Rattle.layout.specs.Words.{targetCell, stmtWords}
+use Rattle.grammar.specs.Statements.{parseWhen, parseWhile, stmtFrom}
 use Rattle.symbols.specs.Trees.{treeOperand, treeCell}
 use Rattle.cells.specs.Answers.{treeStatementStart}
-use Rattle.cells.specs.Reads.Reads.{read, fails}
-use Rattle.cells.proofs.Laws.{then-got, got-read, got-failed, got-with}
-use Rattle.cells.proofs.Reading.{came, pass, reads-on}
-use Rattle.emitter.specs.Emitted.{emittedBy, basesOf, emitAll}
+use Rattle.parser.specs.Reads.Reads.{read, fails}
+use Rattle.parser.proofs.Answers.{then-got, got-read, got-failed, got-with}
+use Rattle.parser.proofs.ReadLaws.{came, pass, reads-on, list-failed, list-zero, list-last, sequel-next}
+use Rattle.layout.specs.Emission.{emitAll}
+use Rattle.emitter.specs.Emitted.{emittedBy, basesOf}
 use Rattle.emitter.proofs.Lays.{kept-here, kept-then, nothing}
-use Rattle.statements.specs.Forms.{stmtAt}
-use Rattle.statements.proofs.Laws.{follow}
-use Rattle.statements.proofs.Assigns.{stored-as, to-a, to-x, called}
+use Rattle.statements.specs.Forms.{stmtAt, stmtsAt}
+use Rattle.statements.proofs.Forms.{follow}
+use Rattle.statements.proofs.AssignmentLaws.{stored-as, to-a, to-x, called}
 use Rattle.statements.proofs.Branches.{guarded-as, if-as, after-test, guards, when-lays, while-lays, first-kept, if-lays}
-use Rattle.statements.proofs.Loops.{for-as, for-lays}
-use Rattle.statements.proofs.Lists.{compounded, Before, before-first, before-next, list-fails, list-ends, list-full, list-last}
+use Rattle.statements.proofs.CountingLaws.{for-as, for-lays}
+use Rattle.statements.proofs.Lists.{compounded, wordsOf, Listed, listed-first, listed-next}
 use Rattle.statements.proofs.Starts.{stmt-empty, stmt-unknown, stmt-deep, stmt-on}
 use Prim.Native.Nat.{ℕ, _+_, _*_, _<_}
 use borrow.Fn.Kinds.{In}
@@ -53,8 +53,8 @@ use Rattle.statements.proofs.+compound+for_statement+form+guarded+if_st
 use Rattle.statements.proofs.while_statement.Reads as while-statement
 use Rattle.statements.proofs.while_statement.Kinds as while-statement-kinds
 use Rattle.statements.proofs.+compound+for_statement+form+guarded+if_statement+listed+statement+when_statement+while_statement.Lts-while_statement as while-statement-lts
-use Rattle.cells.proofs.fail_at.Reads as fail-at-reads
-use Rattle.cells.proofs.openings.statement_start_at.Reads as statement-start-at-reads
+use Rattle.parser.proofs.fail_at.Reads as fail-at-reads
+use Rattle.cells.proofs.starts.statement_start_at.Reads as statement-start-at-reads
 use Rattle.emitter.proofs.emit_jump.Reads as emit-jump-reads
 use Rattle.emitter.proofs.emit_memory.Reads as emit-memory-reads
 use Rattle.emitter.proofs.fill_jump.Reads as fill-jump-reads
@@ -252,7 +252,9 @@ for-statement-returns t c =
     pass _ (follow _ _ (c .before .before .before .before .before .before .before .for-head .ensures) (c .before .before .followed-by .ensures) (λ h l. l .0 .kept) (λ w. w)) (c .enum-told .given .1) (for-as _ _ _ _ _) (λ w. w)
 
 for-statement-statement-requires : (t : ℕ) → for-statement-lts.Need-statement-requires (for-statement-calls t) (for-statement-at t) for-statement.Post
-for-statement-statement-requires t c κs = (omega (arith, c .before .before .before .before .before .before .before .before .before .before .before .before .before .before .pre .0), tt)
+for-statement-statement-requires t c κs =
+    let entry = c .before .before .before .before .before .before .before .before .before .before .before .before .before .before in
+    (omega (arith, entry .pre .0), tt)
 
 for-statement-enum-told-2 : (t : ℕ) → for-statement-lts.Need-enum-told-2 (for-statement-calls t) (for-statement-at t) for-statement.Post
 for-statement-enum-told-2 t c = search needs
@@ -265,8 +267,12 @@ for-statement-same-length-2 t c = search needs
 
 for-statement-returns-2 : (t : ℕ) → for-statement-lts.Need-returns-2 (for-statement-calls t) (for-statement-at t) for-statement.Post
 for-statement-returns-2 t c =
-    let x = came (follow _ _ (c .before .before .before .before .before .before .before .before .before .before .before .before .before .before .for-head .ensures) (c .before .before .before .before .before .before .before .before .before .followed-by .ensures) (λ h l. l .0 .kept) (λ w. w)) (c .before .before .before .before .before .before .before .part .given .1) in
-    pass _ (c .before .before .before .before .statement .ensures) (c .enum-told3 .given .1) (for-as _ _ _ _ _ ∙ then-got _ (x .is)) (kept-then (x .holds .0 .kept))
+    let at-statement = c .before .before .before .before in
+    let at-part = at-statement .before .before .before in
+    let at-followed-by = at-part .before .before in
+    let at-for-head = at-followed-by .before .before .before .before .before in
+    let x = came (follow _ _ (at-for-head .for-head .ensures) (at-followed-by .followed-by .ensures) (λ h l. l .0 .kept) (λ w. w)) (at-part .part .given .1) in
+    pass _ (at-statement .statement .ensures) (c .enum-told3 .given .1) (for-as _ _ _ _ _ ∙ then-got _ (x .is)) (kept-then (x .holds .0 .kept))
 
 for-statement-emit-memory-requires : (t : ℕ) → for-statement-lts.Need-emit-memory-requires (for-statement-calls t) (for-statement-at t) for-statement.Post
 for-statement-emit-memory-requires t c κs = search needs
@@ -275,16 +281,28 @@ for-statement-emit-jump-requires : (t : ℕ) → for-statement-lts.Need-emit-jum
 for-statement-emit-jump-requires t c κs = search needs
 
 for-statement-same-length-3 : (t : ℕ) → for-statement-lts.Need-same-length-3 (for-statement-calls t) (for-statement-at t) for-statement.Post
-for-statement-same-length-3 t c = omega (arith, c .before .before .before .before .before .before .before .before .before .before .before .before .before .before .before .before .before .before .before .before .before .before .before .for-head .kept, c .before .before .before .before .before .before .before .before .before .before .before .before .before .statement .kept, c .before .before .before .before .before .before .emit-memory .kept, c .before .before .emit-jump .kept)
+for-statement-same-length-3 t c =
+    let at-emit-jump = c .before .before in
+    let at-emit-memory = at-emit-jump .before .before .before .before in
+    let at-statement = at-emit-memory .before .before .before .before .before .before .before in
+    let at-for-head = at-statement .before .before .before .before .before .before .before .before .before .before in
+    omega (arith, at-for-head .for-head .kept, at-statement .statement .kept, at-emit-memory .emit-memory .kept, at-emit-jump .emit-jump .kept)
 
 for-statement-returns-3 : (t : ℕ) → for-statement-lts.Need-returns-3 (for-statement-calls t) (for-statement-at t) for-statement.Post
 unfolding treeOperand emitAll
 for-statement-returns-3 t c =
-    let x = came (follow _ _ (c .before .before .before .before .before .before .before .before .before .before .before .before .before .before .before .before .before .before .before .before .before .before .before .for-head .ensures) (c .before .before .before .before .before .before .before .before .before .before .before .before .before .before .before .before .before .before .followed-by .ensures) (λ h l. l .0 .kept) (λ w. w)) (c .before .before .before .before .before .before .before .before .before .before .before .before .before .before .before .before .part .given .1) in
-    let e = c .before .before .before .before .before .before .before .before .before .enum-told2 .given .1 in
-    let y = came (c .before .before .before .before .before .before .before .before .before .before .before .before .before .statement .ensures) e in
+    let at-emit-jump = c .before .before in
+    let at-emit-memory = at-emit-jump .before .before .before .before in
+    let at-enum-told2 = at-emit-memory .before .before .before in
+    let at-statement = at-enum-told2 .before .before .before .before in
+    let at-part = at-statement .before .before .before in
+    let at-followed-by = at-part .before .before in
+    let at-for-head = at-followed-by .before .before .before .before .before in
+    let x = came (follow _ _ (at-for-head .for-head .ensures) (at-followed-by .followed-by .ensures) (λ h l. l .0 .kept) (λ w. w)) (at-part .part .given .1) in
+    let e = at-enum-told2 .enum-told2 .given .1 in
+    let y = came (at-statement .statement .ensures) e in
     read (for-as _ _ _ _ _ ∙ then-got _ (x .is) ∙ then-got _ (y .is)) e
-    (for-lays (x .tree) (y .tree) (x .holds .0) (x .holds .1) (y .holds) (c .before .before .before .before .before .before .emit-memory .ensures .emitted) (c .before .before .emit-jump .ensures .emitted))
+    (for-lays (x .tree) (y .tree) (x .holds .0) (x .holds .1) (y .holds) (at-emit-memory .emit-memory .ensures .emitted) (at-emit-jump .emit-jump .ensures .emitted))
 
 form-enum-known-start : (t : ℕ) → form-lts.Need-enum-known-start (form-calls t) (form-at t) form.Post
 form-enum-known-start t c = search needs
@@ -441,7 +459,8 @@ guarded-returns t c =
 
 guarded-statement-requires : (t : ℕ) → guarded-lts.Need-statement-requires (guarded-calls t) (guarded-at t) guarded.Post
 guarded-statement-requires t c κs =
-    (omega (arith, c .before .before .before .before .before .before .before .before .before .before .before .before .before .pre .0), tt)
+    let entry = c .before .before .before .before .before .before .before .before .before .before .before .before .before in
+    (omega (arith, entry .pre .0), tt)
 
 guarded-enum-told-2 : (t : ℕ) → guarded-lts.Need-enum-told-2 (guarded-calls t) (guarded-at t) guarded.Post
 guarded-enum-told-2 t c = search needs
@@ -454,17 +473,25 @@ guarded-same-length-2 t c = search needs
 
 guarded-returns-2 : (t : ℕ) → guarded-lts.Need-returns-2 (guarded-calls t) (guarded-at t) guarded.Post
 guarded-returns-2 t c =
-    let x = came (after-test _ _ (c .before .before .before .before .before .before .before .before .before .before .before .before .before .before .condition .ensures) (c .before .before .before .before .before .before .before .before .before .before .followed-by .ensures)) (c .before .before .before .before .before .before .before .before .part .given .1) in
-    pass _ (c .before .before .before .before .before .statement .ensures) (c .enum-told3 .given .1) (guarded-as _ _ _ _ _ _ ∙ then-got _ (x .is)) (λ w. (kept-then (x .holds .lays .kept) w, refl))
+    let at-statement = c .before .before .before .before .before in
+    let at-part = at-statement .before .before .before in
+    let at-followed-by = at-part .before .before in
+    let at-condition = at-followed-by .before .before .before .before in
+    let x = came (after-test _ _ (at-condition .condition .ensures) (at-followed-by .followed-by .ensures)) (at-part .part .given .1) in
+    pass _ (at-statement .statement .ensures) (c .enum-told3 .given .1) (guarded-as _ _ _ _ _ _ ∙ then-got _ (x .is)) (λ w. (kept-then (x .holds .lays .kept) w, refl))
 
 guarded-same-length-3 : (t : ℕ) → guarded-lts.Need-same-length-3 (guarded-calls t) (guarded-at t) guarded.Post
 guarded-same-length-3 t c = search needs
 
 guarded-returns-3 : (t : ℕ) → guarded-lts.Need-returns-3 (guarded-calls t) (guarded-at t) guarded.Post
 guarded-returns-3 t c =
-    let x = came (after-test _ _ (c .before .before .before .before .before .before .before .before .before .before .before .before .before .before .condition .ensures) (c .before .before .before .before .before .before .before .before .before .before .followed-by .ensures)) (c .before .before .before .before .before .before .before .before .part .given .1) in
+    let at-statement = c .before .before .before .before .before in
+    let at-part = at-statement .before .before .before in
+    let at-followed-by = at-part .before .before in
+    let at-condition = at-followed-by .before .before .before .before in
+    let x = came (after-test _ _ (at-condition .condition .ensures) (at-followed-by .followed-by .ensures)) (at-part .part .given .1) in
     let e = c .enum-told2 .given .1 in
-    let y = came (c .before .before .before .before .before .statement .ensures) e in
+    let y = came (at-statement .statement .ensures) e in
     read (guarded-as _ _ _ _ _ _ ∙ then-got _ (x .is) ∙ then-got _ (y .is)) e (guards (x .tree) (y .tree) (x .holds) (y .holds))
 
 if-statement-guarded-requires : (t : ℕ) → if-statement-lts.Need-guarded-requires (if-statement-calls t) (if-statement-at t) if-statement.Post
@@ -495,7 +522,8 @@ if-statement-fill-jump-requires t c κs = search needs
 
 if-statement-statement-requires : (t : ℕ) → if-statement-lts.Need-statement-requires (if-statement-calls t) (if-statement-at t) if-statement.Post
 if-statement-statement-requires t c κs =
-    (omega (arith, c .before .before .before .before .before .before .before .before .before .before .before .before .before .before .before .before .before .before .before .before .before .before .pre .0), tt)
+    let entry = c .before .before .before .before .before .before .before .before .before .before .before .before .before .before .before .before .before .before .before .before .before .before in
+    (omega (arith, entry .pre .0), tt)
 
 if-statement-enum-told-2 : (t : ℕ) → if-statement-lts.Need-enum-told-2 (if-statement-calls t) (if-statement-at t) if-statement.Post
 if-statement-enum-told-2 t c = search needs
@@ -505,36 +533,59 @@ if-statement-enum-told-3 t c = search needs
 
 if-statement-same-length-2 : (t : ℕ) → if-statement-lts.Need-same-length-2 (if-statement-calls t) (if-statement-at t) if-statement.Post
 if-statement-same-length-2 t c =
-    omega (arith, c .before .before .before .before .before .before .before .before .before .before .before .before .before .before .before .before .before .before .before .before .before .before .guarded .kept, c .before .before .before .before .before .before .before .before .before .before .before .before .before .emit-hole .kept, c .before .before .before .before .before .before .before .before .fill-jump .kept, c .before .before .before .before .statement .kept)
+    let at-statement = c .before .before .before .before in
+    let at-fill-jump = at-statement .before .before .before .before in
+    let at-emit-hole = at-fill-jump .before .before .before .before .before in
+    let at-guarded = at-emit-hole .before .before .before .before .before .before .before .before .before in
+    omega (arith, at-guarded .guarded .kept, at-emit-hole .emit-hole .kept, at-fill-jump .fill-jump .kept, at-statement .statement .kept)
 
 if-statement-returns-2 : (t : ℕ) → if-statement-lts.Need-returns-2 (if-statement-calls t) (if-statement-at t) if-statement.Post
 if-statement-returns-2 t c =
-    let x = came (after-test _ _ (c .before .before .before .before .before .before .before .before .before .before .before .before .before .before .before .before .before .before .before .before .before .before .guarded .ensures) (c .before .before .before .before .before .before .before .before .before .before .before .before .before .before .before .before .before .before .followed-by .ensures)) (c .before .before .before .before .before .before .before .before .before .before .before .before .before .before .before .before .part .given .1) in
-    pass _ (c .before .before .before .before .statement .ensures) (c .enum-told3 .given .1) (if-as _ _ _ _ _ ∙ then-got _ (x .is)) (kept-then (first-kept (x .tree) (x .holds) (hole-later (c .before .before .before .before .before .before .before .before .before .before .before .before .before .emit-hole .ensures)) (c .before .before .before .before .before .before .before .before .fill-jump .ensures)))
+    let at-statement = c .before .before .before .before in
+    let at-fill-jump = at-statement .before .before .before .before in
+    let at-emit-hole = at-fill-jump .before .before .before .before .before in
+    let at-part = at-emit-hole .before .before .before in
+    let at-followed-by = at-part .before .before in
+    let at-guarded = at-followed-by .before .before .before .before in
+    let x = came (after-test _ _ (at-guarded .guarded .ensures) (at-followed-by .followed-by .ensures)) (at-part .part .given .1) in
+    pass _ (at-statement .statement .ensures) (c .enum-told3 .given .1) (if-as _ _ _ _ _ ∙ then-got _ (x .is)) (kept-then (first-kept (x .tree) (x .holds) (hole-later (at-emit-hole .emit-hole .ensures)) (at-fill-jump .fill-jump .ensures)))
 
 if-statement-fill-jump-requires-2 : (t : ℕ) → if-statement-lts.Need-fill-jump-requires-2 (if-statement-calls t) (if-statement-at t) if-statement.Post
 if-statement-fill-jump-requires-2 t c κs = search needs
 
 if-statement-same-length-3 : (t : ℕ) → if-statement-lts.Need-same-length-3 (if-statement-calls t) (if-statement-at t) if-statement.Post
 if-statement-same-length-3 t c =
-    omega (arith, c .before .before .before .before .before .before .before .before .before .before .before .before .before .before .before .before .before .before .before .before .before .before .before .before .before .before .before .guarded .kept, c .before .before .before .before .before .before .before .before .before .before .before .before .before .before .before .before .before .before .emit-hole .kept, c .before .before .before .before .before .before .before .before .before .before .before .before .before .fill-jump .kept, c .before .before .before .before .before .before .before .before .before .statement .kept, c .before .before .fill-jump2 .kept)
+    let at-fill-jump2 = c .before .before in
+    let at-statement = at-fill-jump2 .before .before .before .before .before .before .before in
+    let at-fill-jump = at-statement .before .before .before .before in
+    let at-emit-hole = at-fill-jump .before .before .before .before .before in
+    let at-guarded = at-emit-hole .before .before .before .before .before .before .before .before .before in
+    omega (arith, at-guarded .guarded .kept, at-emit-hole .emit-hole .kept, at-fill-jump .fill-jump .kept, at-statement .statement .kept, at-fill-jump2 .fill-jump2 .kept)
 
 if-statement-returns-3 : (t : ℕ) → if-statement-lts.Need-returns-3 (if-statement-calls t) (if-statement-at t) if-statement.Post
 if-statement-returns-3 t c =
-    let x = came (after-test _ _ (c .before .before .before .before .before .before .before .before .before .before .before .before .before .before .before .before .before .before .before .before .before .before .before .before .before .before .before .guarded .ensures) (c .before .before .before .before .before .before .before .before .before .before .before .before .before .before .before .before .before .before .before .before .before .before .before .followed-by .ensures)) (c .before .before .before .before .before .before .before .before .before .before .before .before .before .before .before .before .before .before .before .before .before .part .given .1) in
-    let e = c .before .before .before .before .before .enum-told2 .given .1 in
-    let y = came (c .before .before .before .before .before .before .before .before .before .statement .ensures) e in
+    let at-fill-jump2 = c .before .before in
+    let at-enum-told2 = at-fill-jump2 .before .before .before in
+    let at-statement = at-enum-told2 .before .before .before .before in
+    let at-fill-jump = at-statement .before .before .before .before in
+    let at-emit-hole = at-fill-jump .before .before .before .before .before in
+    let at-part = at-emit-hole .before .before .before in
+    let at-followed-by = at-part .before .before in
+    let at-guarded = at-followed-by .before .before .before .before in
+    let x = came (after-test _ _ (at-guarded .guarded .ensures) (at-followed-by .followed-by .ensures)) (at-part .part .given .1) in
+    let e = at-enum-told2 .enum-told2 .given .1 in
+    let y = came (at-statement .statement .ensures) e in
     read (if-as _ _ _ _ _ ∙ then-got _ (x .is) ∙ then-got _ (y .is)) e
-    (if-lays (x .tree) (x .holds) (hole-later (c .before .before .before .before .before .before .before .before .before .before .before .before .before .before .before .before .before .before .emit-hole .ensures)) (c .before .before .before .before .before .before .before .before .before .before .before .before .before .fill-jump .ensures) (y .tree) (y .holds) (c .before .before .fill-jump2 .ensures))
+    (if-lays (x .tree) (x .holds) (hole-later (at-emit-hole .emit-hole .ensures)) (at-fill-jump .fill-jump .ensures) (y .tree) (y .holds) (at-fill-jump2 .fill-jump2 .ensures))
 
 abbrev listed-Inv-loop : listed-lts.InvT-loop
-listed-Inv-loop source table image₀ context at left turns₀ i₀ held₀ image turns i held = (length image ≡ length image₀) × Before (basesOf context) (emittedBy held₀ image₀) (emittedBy held image) source (stmtAt source context table left) turns i (parseStmts source (heldBy (context .names) table) (stmtAt source context table left) at)
+listed-Inv-loop source table image₀ context at left turns₀ i₀ before image turns i sofar = (length image ≡ length image₀) × Listed (basesOf context) (emittedBy before image₀) (emittedBy sofar image) source (stmtAt source context table left) (stmtsAt source context table left at) i turns
 
 abbrev listed-μ-loop : listed-lts.MeasureT-loop
-listed-μ-loop source table image₀ context at left turns₀ i₀ held₀ image turns i held = turns
+listed-μ-loop source table image₀ context at left turns₀ i₀ before image turns i sofar = turns
 
 listed-loop-holds : (t : ℕ) → listed-lts.Need-loop-holds (listed-calls t) (listed-at t) listed.Post listed-Inv-loop listed-μ-loop
-listed-loop-holds t c = (refl, before-first _ _ _ _)
+listed-loop-holds t c = (refl, listed-first _ _ _ _)
 
 listed-statement-requires : (t : ℕ) → listed-lts.Need-statement-requires (listed-calls t) (listed-at t) listed.Post listed-Inv-loop listed-μ-loop
 listed-statement-requires t c κs = (omega (arith, c .before .before .before .before .before .pre .0), tt)
@@ -549,13 +600,16 @@ listed-same-length : (t : ℕ) → listed-lts.Need-same-length (listed-calls t) 
 listed-same-length t c = search needs
 
 listed-returns : (t : ℕ) → listed-lts.Need-returns (listed-calls t) (listed-at t) listed.Post listed-Inv-loop listed-μ-loop
-listed-returns t c = list-fails (c .before .before .before .before .before .before .loop .inv .1) (c .before .before .before .before .statement .ensures) (c .enum-told .given .1)
+listed-returns t c = let l = c .before .before .before .before .before .before .loop .inv .1 in list-failed l (listed-next _ _ _ (l .holds) (c .before .before .before .before .statement .ensures)) (c .enum-told .given .1)
 
 listed-same-length-2 : (t : ℕ) → listed-lts.Need-same-length-2 (listed-calls t) (listed-at t) listed.Post listed-Inv-loop listed-μ-loop
 listed-same-length-2 t c = search needs
 
 listed-returns-2 : (t : ℕ) → listed-lts.Need-returns-2 (listed-calls t) (listed-at t) listed.Post listed-Inv-loop listed-μ-loop
-listed-returns-2 t c = list-ends (c .before .before .before .before .before .before .before .before .loop .inv .1) (c .before .before .before .before .before .before .statement .ensures) (c .before .before .part .given .1) (λ s. list-full _ _ _ _ _ (c .if1 .taken))
+listed-returns-2 t c =
+    let at-statement = c .before .before .before .before .before .before in
+    let l = at-statement .before .before .loop .inv .1 in
+    list-zero l (listed-next _ _ _ (l .holds) (at-statement .statement .ensures)) (c .before .before .part .given .1) (c .if1 .taken)
 
 listed-token-at-requires : (t : ℕ) → listed-lts.Need-token-at-requires (listed-calls t) (listed-at t) listed.Post listed-Inv-loop listed-μ-loop
 listed-token-at-requires t c κs = search needs
@@ -564,7 +618,12 @@ listed-same-length-3 : (t : ℕ) → listed-lts.Need-same-length-3 (listed-calls
 listed-same-length-3 t c = search needs
 
 listed-returns-3 : (t : ℕ) → listed-lts.Need-returns-3 (listed-calls t) (listed-at t) listed.Post listed-Inv-loop listed-μ-loop
-listed-returns-3 t c = list-ends (c .before .before .before .before .before .before .before .before .before .before .before .loop .inv .1) (c .before .before .before .before .before .before .before .before .before .statement .ensures) (c .before .before .before .before .before .part .given .1) (λ s. list-last _ _ _ _ _ (c .before .before .token-at .ensures) _ (c .if2 .taken))
+listed-returns-3 t c =
+    let at-token-at = c .before .before in
+    let at-part = at-token-at .before .before .before in
+    let at-statement = at-part .before .before .before .before in
+    let l = at-statement .before .before .loop .inv .1 in
+    list-last l (listed-next _ _ _ (l .holds) (at-statement .statement .ensures)) (at-part .part .given .1) (at-token-at .token-at .ensures) (c .if2 .taken)
 
 listed-sub-turns : (t : ℕ) → listed-lts.Need-sub-turns (listed-calls t) (listed-at t) listed.Post listed-Inv-loop listed-μ-loop
 listed-sub-turns t c = omega (arith, c .before .before .before .before .if1 .left)
@@ -573,7 +632,15 @@ listed-loop-less : (t : ℕ) → listed-lts.Need-loop-less (listed-calls t) (lis
 listed-loop-less t c = omega (arith, c .before .before .before .before .if1 .left)
 
 listed-loop-again : (t : ℕ) → listed-lts.Need-loop-again (listed-calls t) (listed-at t) listed.Post listed-Inv-loop listed-μ-loop
-listed-loop-again t c = (omega (arith, c .before .before .before .before .before .before .before .before .before .before .before .before .loop .inv .0, c .before .before .before .before .before .before .before .before .before .before .statement .kept), before-next (c .before .before .before .before .before .before .before .before .before .before .before .before .loop .inv .1) (c .before .before .before .before .before .before .before .before .before .before .statement .ensures) _ (c .before .before .before .token-at .ensures) (c .before .before .before .before .before .before .part .given .1) (c .before .before .before .before .if1 .left) (c .before .if2 .left))
+unfolding wordsOf
+listed-loop-again t c =
+    let at-token-at = c .before .before .before in
+    let at-if1 = at-token-at .before in
+    let at-part = at-if1 .before .before in
+    let at-statement = at-part .before .before .before .before in
+    let at-loop = at-statement .before .before in
+    let l = at-loop .loop .inv .1 in
+    (omega (arith, at-loop .loop .inv .0, at-statement .statement .kept), sequel-next l (listed-next _ _ _ (l .holds) (at-statement .statement .ensures)) (at-part .part .given .1) (at-token-at .token-at .ensures) (λ _ h. h) (at-if1 .if1 .left) (c .before .if2 .left))
 
 statement-token-at-requires : (t : ℕ) → statement-lts.Need-token-at-requires (statement-calls t) (statement-at t) statement′.Post
 statement-token-at-requires t c κs = search needs
@@ -604,20 +671,34 @@ statement-fail-at-requires t c κs = search needs
 
 statement-returns-3 : (t : ℕ) → statement-lts.Need-returns-3 (statement-calls t) (statement-at t) statement′.Post
 statement-returns-3 t c =
-    fails (stmt-deep _ _ _ _ (c .before .before .before .before .before .before .before .before .token-at .ensures) (sym (c .before .before .before .before .before .before .before .ends-statement .ensures) ∙ c .before .before .before .before .before .before .if1 .left) (got-read (got-with _ (c .before .before .before .before .before .statement-start-at .ensures)) (c .before .before .before .part .given .1)) _ (c .before .if2 .taken)) (c .fail-at .ensures) kept-here
+    let at-part = c .before .before .before in
+    let at-statement-start-at = at-part .before .before in
+    let at-if1 = at-statement-start-at .before in
+    let at-ends-statement = at-if1 .before in
+    let at-token-at = at-ends-statement .before in
+    fails (stmt-deep _ _ _ _ (at-token-at .token-at .ensures) (sym (at-ends-statement .ends-statement .ensures) ∙ at-if1 .if1 .left) (got-read (got-with _ (at-statement-start-at .statement-start-at .ensures)) (at-part .part .given .1)) _ (c .before .if2 .taken)) (c .fail-at .ensures) kept-here
 
 statement-sub-form : (t : ℕ) → statement-lts.Need-sub-form (statement-calls t) (statement-at t) statement′.Post
 statement-sub-form t c = search needs
 
 statement-form-requires : (t : ℕ) → statement-lts.Need-form-requires (statement-calls t) (statement-at t) statement′.Post
-statement-form-requires t c κs = (omega (arith, c .before .before .before .before .before .before .before .before .before .before .before .before .pre .0, c .before .if2 .left), tt)
+statement-form-requires t c κs =
+    let entry = c .before .before .before .before .before .before .before .before .before .before .before .before in
+    (omega (arith, entry .pre .0, c .before .if2 .left), tt)
 
 statement-same-length : (t : ℕ) → statement-lts.Need-same-length (statement-calls t) (statement-at t) statement′.Post
 statement-same-length t c = search needs
 
 statement-returns-4 : (t : ℕ) → statement-lts.Need-returns-4 (statement-calls t) (statement-at t) statement′.Post
 statement-returns-4 t c =
-    reads-on (stmt-on _ _ _ _ (c .before .before .before .before .before .before .before .before .before .before .before .token-at .ensures) (sym (c .before .before .before .before .before .before .before .before .before .before .ends-statement .ensures) ∙ c .before .before .before .before .before .before .before .before .before .if1 .left) (got-read (got-with _ (c .before .before .before .before .before .before .before .before .statement-start-at .ensures)) (c .before .before .before .before .before .before .part .given .1)) _ (c .before .before .before .before .if2 .left)) (c .before .before .form .ensures)
+    let at-form = c .before .before in
+    let at-if2 = at-form .before .before in
+    let at-part = at-if2 .before .before in
+    let at-statement-start-at = at-part .before .before in
+    let at-if1 = at-statement-start-at .before in
+    let at-ends-statement = at-if1 .before in
+    let at-token-at = at-ends-statement .before in
+    reads-on (stmt-on _ _ _ _ (at-token-at .token-at .ensures) (sym (at-ends-statement .ends-statement .ensures) ∙ at-if1 .if1 .left) (got-read (got-with _ (at-statement-start-at .statement-start-at .ensures)) (at-part .part .given .1)) _ (at-if2 .if2 .left)) (at-form .form .ensures)
 
 when-statement-guarded-requires : (t : ℕ) → when-statement-lts.Need-guarded-requires (when-statement-calls t) (when-statement-at t) when-statement.Post
 when-statement-guarded-requires t c κs =
@@ -646,9 +727,11 @@ when-statement-same-length-2 t c = search needs
 when-statement-returns-2 : (t : ℕ) → when-statement-lts.Need-returns-2 (when-statement-calls t) (when-statement-at t) when-statement.Post
 unfolding parseWhen
 when-statement-returns-2 t c =
-    let e = c .before .before .before .before .enum-told .given .1 in
-    let x = came (c .before .before .before .before .before .before .before .before .before .guarded .ensures) e in
-    read (then-got _ (x .is)) e (when-lays (x .tree) (x .holds) (c .before .before .fill-jump .ensures))
+    let at-fill-jump = c .before .before in
+    let at-guarded = at-fill-jump .before .before .before .before .before .before .before in
+    let e = at-fill-jump .before .before .enum-told .given .1 in
+    let x = came (at-guarded .guarded .ensures) e in
+    read (then-got _ (x .is)) e (when-lays (x .tree) (x .holds) (at-fill-jump .fill-jump .ensures))
 
 while-statement-guarded-requires : (t : ℕ) → while-statement-lts.Need-guarded-requires (while-statement-calls t) (while-statement-at t) while-statement.Post
 while-statement-guarded-requires t c κs =
@@ -680,9 +763,12 @@ while-statement-same-length-2 t c = search needs
 while-statement-returns-2 : (t : ℕ) → while-statement-lts.Need-returns-2 (while-statement-calls t) (while-statement-at t) while-statement.Post
 unfolding parseWhile
 while-statement-returns-2 t c =
-    let e = c .before .before .before .before .before .before .before .before .enum-told .given .1 in
-    let x = came (c .before .before .before .before .before .before .before .before .before .before .before .before .before .guarded .ensures) e in
-    read (then-got _ (x .is)) e (while-lays (x .tree) (x .holds) (c .before .before .before .before .before .before .emit-jump .ensures .emitted) (c .before .before .fill-jump .ensures))
+    let at-fill-jump = c .before .before in
+    let at-emit-jump = at-fill-jump .before .before .before .before in
+    let at-guarded = at-emit-jump .before .before .before .before .before .before .before in
+    let e = at-emit-jump .before .before .enum-told .given .1 in
+    let x = came (at-guarded .guarded .ensures) e in
+    read (then-got _ (x .is)) e (while-lays (x .tree) (x .holds) (at-emit-jump .emit-jump .ensures .emitted) (at-fill-jump .fill-jump .ensures))
 
 pub +compound+for-statement+form+guarded+if-statement+listed+statement+when-statement+while-statement-spec :
     {M : Type 1} → statement M

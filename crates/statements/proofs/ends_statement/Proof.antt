@@ -1,4 +1,3 @@
--- `statements::ends_statement` meets its contract. Assumes nothing.
 use Rattle.statements.proofs.Starts.{ends-one, ends-none}
 use Rattle.statements.proofs.ends_statement.Statement.{statement}
 use Rattle.statements.proofs.ends_statement.Tie as tie

@@ -1,4 +1,3 @@
--- `statements::followed_by` meets its contract. Assumes nothing.
 use Rattle.statements.specs.Forms.{followedPart}
 use borrow.Author.Needs.{needs}
 use Rattle.statements.proofs.followed_by.Statement.{statement}

@@ -1,5 +1,4 @@
--- `statements::statements` meets its contract. Assumes nothing.
-use Rattle.syntax.specs.Statements.{parseOutermost}
+use Rattle.grammar.specs.Statements.{parseOutermost}
 use borrow.Author.Needs.{needs}
 use Rattle.statements.proofs.statements.Statement.{statement}
 use Rattle.statements.proofs.statements.Tie as tie

@@ -1,8 +1,8 @@
--- `symbols::declare` meets its contract: the stores are the definition's. Assumes nothing.
+-- The stores are the definition's.
 use native.Mathlib.Omega.{arith}
 use lib.ListN.{length-set}
-use Rattle.symbols.specs.Table.{stored, withRow}
-use Rattle.symbols.proofs.Entries.{declared-room, declared-full}
+use Rattle.symbols.specs.Table.{withWords, withRow}
+use Rattle.symbols.proofs.Table.{declared-room, declared-full}
 use borrow.Author.Needs.{needs}
 use Rattle.symbols.proofs.declare.Statement.{statement}
 use Rattle.symbols.proofs.declare.Tie as tie
@@ -77,7 +77,7 @@ same-length : tie.Need-same-length
 same-length c = simp length-set
 
 returns : tie.Need-returns
-unfolding withRow stored
+unfolding withRow withWords
 returns c = rw (c .data-of .ensures) (declared-room _ _ _ _ _ (omega arith))
 
 returns-2 : tie.Need-returns-2

@@ -1,9 +1,9 @@
--- X, or the symbol of the name's newest entry. Assumes nothing.
+-- X, or the symbol of the name's newest entry.
 use mathlib.Core.Path.{sym, _∙_}
 use Rattle.symbols.specs.Trees.{treeId, treeSymbol}
-use Rattle.syntax.specs.Symbols.{symbolOf}
+use Rattle.tree.specs.Symbols.{symbolOf}
 use Rattle.symbols.specs.Table.{rowAt, nthIn}
-use Rattle.symbols.proofs.Entries.{nth-is}
+use Rattle.symbols.proofs.Table.{nth-is}
 use borrow.Author.Needs.{needs}
 use Rattle.symbols.proofs.find.Statement.{statement}
 use Rattle.symbols.proofs.find.Tie as tie

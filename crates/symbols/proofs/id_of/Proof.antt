@@ -1,9 +1,9 @@
--- `symbols::id_of` meets its contract: level 0 is global, any other is 1 more than a procedure's number. Assumes nothing.
+-- Level 0 is global, any other is 1 more than a procedure's number.
 use mathlib.Core.Path.{_≡_, refl}
 use Prim.Native.Nat.{ℕ, zero, suc, _-_}
 use native.Mathlib.Numerals.{sub-one}
-use Rattle.syntax.specs.Tree.{Id}
-use Rattle.syntax.specs.Symbols.{nextId}
+use Rattle.tree.specs.Tree.{Id}
+use Rattle.tree.specs.Symbols.{nextId}
 use Rattle.symbols.specs.Trees.{treeId}
 use Rattle.symbols.specs.Table.{levelOf}
 use borrow.Author.Needs.{needs}

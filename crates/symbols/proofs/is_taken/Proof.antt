@@ -1,4 +1,4 @@
--- X, or the level of the name's newest row. Assumes nothing.
+-- X, or the level of the name's newest row.
 use mathlib.Core.Path.{_≡_, refl, sym, ap, _∙_}
 use mathlib.Core.Bool.{not}
 use Prim.Native.Nat.{ℕ, zero, suc}
@@ -6,10 +6,9 @@ use native.Mathlib.Omega.{arith}
 use borrow.Author.Needs.{needs}
 use borrow.Author.Tests.{ne-eqb}
 use lib.Dec.{eqb}
-use Rattle.syntax.specs.Symbols.{sameLevel}
-use Rattle.syntax.specs.Declarations.{isTaken}
+use Rattle.tree.specs.Symbols.{sameLevel, isTaken}
 use Rattle.symbols.specs.Table.{levelOf, entryAt, rowAt, nthIn}
-use Rattle.symbols.proofs.Entries.{nth-is}
+use Rattle.symbols.proofs.Table.{nth-is}
 use Rattle.symbols.proofs.is_taken.Statement.{statement}
 use Rattle.symbols.proofs.is_taken.Tie as tie
 

@@ -1,4 +1,3 @@
--- `symbols::is_x` meets its contract. Assumes nothing.
 use borrow.Author.Tests.{eq-eqb, ne-eqb}
 use Rattle.symbols.specs.Packing.{samePacked}
 use Rattle.symbols.proofs.Packing.{x-packed}

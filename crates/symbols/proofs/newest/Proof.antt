@@ -1,4 +1,4 @@
--- The invariant of `symbols::newest`: what the first `i` entries give is what all give. Assumes nothing.
+-- The invariant of `symbols::newest`: what the first `i` entries give is what all give.
 use mathlib.Core.Path.{_≡_, refl, sym, ap, _∙_}
 use Prim.Native.Nat.{ℕ, zero, suc, _*_, _/_, _-_, _≤_, _<_}
 use mathlib.Core.Bool.{true, false}
@@ -8,12 +8,13 @@ use native.Mathlib.Omega.{arith}
 use native.Mathlib.Numerals.{sub-one}
 use borrow.Author.Tests.{lt-leb}
 use lib.ListN.{length}
-use Rattle.source.specs.Bytes.{sameBytes, find}
+use Rattle.source.specs.Bytes.{sameBytes}
+use Rattle.prelude.specs.Choice.{find}
 use Rattle.symbols.specs.declared.Packed.{Packed}
 use Rattle.symbols.specs.Packing.{samePacked, packedAt, unpack}
-use Rattle.symbols.specs.Table.{rowAt, entriesOf, heldBy, nthIn}
+use Rattle.symbols.specs.Table.{rowAt, entriesOf, liveNames, nthIn}
 use Rattle.symbols.proofs.Packing.{same-unpacked}
-use Rattle.symbols.proofs.Entries.{held-all}
+use Rattle.symbols.proofs.Table.{held-all}
 use Rattle.symbols.proofs.newest.Statement.{statement}
 use Rattle.symbols.proofs.newest.Tie as tie
 
@@ -33,12 +34,12 @@ unfolding entriesOf find
 empty t zero name h = refl
 empty t (suc i) name h = absurd (omega arith)
 
-short : (t : List ℕ) (count : ℕ) (name : Packed) → length t / 7 < count → find (sameBytes (unpack name)) (heldBy count t) ≡ none
-unfolding heldBy find
+short : (t : List ℕ) (count : ℕ) (name : Packed) → length t / 7 < count → find (sameBytes (unpack name)) (liveNames count t) ≡ none
+unfolding liveNames find
 short t count name h = rw (lt-leb count (length t / 7) h)
 
 abbrev Inv-loop : tie.InvT-loop
-Inv-loop table count name i₀ i = (i ≤ count) × (find (sameBytes (unpack name)) (entriesOf i table) ≡ find (sameBytes (unpack name)) (heldBy count table))
+Inv-loop table count name i₀ i = (i ≤ count) × (find (sameBytes (unpack name)) (entriesOf i table) ≡ find (sameBytes (unpack name)) (liveNames count table))
 
 abbrev μ-loop : tie.MeasureT-loop
 μ-loop table count name i₀ i = i

@@ -1,4 +1,4 @@
--- `symbols::pack` meets its contract: each word is the definition's. Assumes nothing.
+-- Each word is the definition's.
 use Rattle.symbols.specs.Packing.{packOf}
 use borrow.Author.Needs.{needs}
 use Rattle.symbols.proofs.pack.Statement.{statement}

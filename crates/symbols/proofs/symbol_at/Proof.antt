@@ -14,14 +14,14 @@ mul-level c = search needs
 shared-slice-read-level : tie.Need-shared-slice-read-level
 shared-slice-read-level c = search needs
 
-add-code : tie.Need-add-code
-add-code c = search needs
+add-tag : tie.Need-add-tag
+add-tag c = search needs
 
-mul-code : tie.Need-mul-code
-mul-code c = search needs
+mul-tag : tie.Need-mul-tag
+mul-tag c = search needs
 
-shared-slice-read-code : tie.Need-shared-slice-read-code
-shared-slice-read-code c = search needs
+shared-slice-read-tag : tie.Need-shared-slice-read-tag
+shared-slice-read-tag c = search needs
 
 add-number : tie.Need-add-number
 add-number c = search needs
@@ -79,9 +79,9 @@ symbol-at-spec =
     add-level
     mul-level
     shared-slice-read-level
-    add-code
-    mul-code
-    shared-slice-read-code
+    add-tag
+    mul-tag
+    shared-slice-read-tag
     add-number
     mul-number
     shared-slice-read-number

@@ -1,4 +1,3 @@
--- `word::compare` meets its contract. Assumes nothing.
 use borrow.Author.Tests.{lt-ltb, le-ltb, eq-eqb, ne-eqb}
 use Rattle.word.specs.Arithmetic.{compareOf}
 use borrow.Author.Needs.{needs}

@@ -1,4 +1,3 @@
--- `word::difference` meets its contract. Assumes nothing.
 use Rattle.word.specs.Arithmetic.{differenceOf}
 use borrow.Author.Needs.{needs}
 use Rattle.word.proofs.difference.Statement.{statement}

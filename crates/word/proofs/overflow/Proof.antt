@@ -1,4 +1,3 @@
--- `word::overflow` meets its contract. Assumes nothing.
 use borrow.Author.Tests.{lt-ltb, le-ltb}
 use Rattle.word.proofs.overflow.Statement.{statement}
 use Rattle.word.proofs.overflow.Tie as tie

@@ -1,4 +1,3 @@
--- `word::sum` meets its contract. Assumes nothing.
 use Rattle.word.specs.Arithmetic.{sumOf}
 use borrow.Author.Needs.{needs}
 use Rattle.word.proofs.sum.Statement.{statement}

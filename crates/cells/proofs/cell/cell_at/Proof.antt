@@ -1,9 +1,9 @@
 use mathlib.Core.Path.{sym, ap, _∙_}
-use Rattle.syntax.specs.Cells.{parseCell}
+use Rattle.grammar.specs.Cells.{parseCell}
 use Rattle.symbols.specs.Trees.{treeOperand, treeCell}
-use Rattle.cells.specs.Answers.{answerOf}
-use Rattle.cells.proofs.Laws.{got-with, got-read, got-failed, then-got, then-failed, failed-answer}
-use Rattle.cells.proofs.Names.{cell-is}
+use Rattle.parser.specs.Answers.{readOr}
+use Rattle.parser.proofs.Answers.{got-with, got-read, got-failed, then-got, then-failed, failed-answer}
+use Rattle.cells.proofs.StartNames.{cell-is}
 use borrow.Author.Needs.{needs}
 use Rattle.cells.proofs.cell.cell_at.Statement.{statement}
 use Rattle.cells.proofs.cell.cell_at.Tie as tie
@@ -11,8 +11,8 @@ use Rattle.cells.proofs.cell.cell_at.Tie as tie
 token-at-requires : tie.Need-token-at-requires
 token-at-requires c κs = search needs
 
-symbol-of-requires : tie.Need-symbol-of-requires
-symbol-of-requires c κs = search needs
+lookup-requires : tie.Need-lookup-requires
+lookup-requires c κs = search needs
 
 cell-start-of-requires : tie.Need-cell-start-of-requires
 cell-start-of-requires c κs = search needs
@@ -32,7 +32,7 @@ returns c =
     let start = c .before .before .before in
     let e = start .before .before .token-at .ensures in
     let q = c .before .enum-told .given .1 in
-    rw (← e, cell-is _ _ _, ← (start .before .symbol-of .ensures _ e), c .no-cell .ensures) (failed-answer _ (then-failed _ (got-failed _ (got-with _ (start .cell-start-of .ensures)) q)) q)
+    rw (← e, cell-is _ _ _, ← (start .before .lookup .ensures .of-source _ e), c .no-cell .ensures) (failed-answer _ (then-failed _ (got-failed _ (got-with _ (start .cell-start-of .ensures)) q)) q)
 
 cell-from-requires : tie.Need-cell-from-requires
 cell-from-requires c κs = search needs
@@ -42,14 +42,14 @@ unfolding parseCell
 returns-2 c =
     let start = c .before .before .before .before in
     let e = start .before .before .token-at .ensures in
-    rw (← e, cell-is _ _ _, ← (start .before .symbol-of .ensures _ e)) (c .cell-from .ensures ∙ ap (answerOf _) (sym (then-got _ (got-read (got-with _ (start .cell-start-of .ensures)) (c .before .before .part .given .1)))))
+    rw (← e, cell-is _ _ _, ← (start .before .lookup .ensures .of-source _ e)) (c .cell-from .ensures ∙ ap (readOr _) (sym (then-got _ (got-read (got-with _ (start .cell-start-of .ensures)) (c .before .before .part .given .1)))))
 
 pub cell-at-spec : {M : Type 1} → statement M
 cell-at-spec =
     tie.close
     (tie.spec
     token-at-requires
-    symbol-of-requires
+    lookup-requires
     cell-start-of-requires
     enum-known-part
     enum-told

@@ -1,7 +1,8 @@
-use Rattle.syntax.specs.Cells.{cellFrom}
+use Rattle.grammar.specs.Cells.{cellFrom}
 use Rattle.symbols.specs.Trees.{treeOperand, treeCell}
-use Rattle.cells.specs.Answers.{answerOf, treeCellStart}
-use Rattle.cells.proofs.Laws.{got-with, got-read, got-failed, then-got, then-failed, read-answer, failed-answer}
+use Rattle.parser.specs.Answers.{readOr}
+use Rattle.cells.specs.Answers.{treeCellStart}
+use Rattle.parser.proofs.Answers.{got-with, got-read, got-failed, then-got, then-failed, read-answer, failed-answer}
 use borrow.Author.Needs.{needs}
 use Rattle.cells.proofs.cell.cell_from.Statement.{statement}
 use Rattle.cells.proofs.cell.cell_from.Tie as tie
@@ -31,7 +32,7 @@ returns c =
     rw (c .before .before .before .before .before .start2 .given .1, c .no-cell .ensures) (failed-answer _ (then-failed _ (got-failed _ (got-with _ (c .before .before .before .subscript-at .ensures)) q)) q)
 
 returns-2 : tie.Need-returns-2
-unfolding answerOf cellFrom treeCell treeCellStart
+unfolding readOr cellFrom treeCell treeCellStart
 returns-2 c = rw (c .before .start .given .1)
 
 returns-3 : tie.Need-returns-3

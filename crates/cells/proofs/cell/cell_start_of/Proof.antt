@@ -1,9 +1,10 @@
-use Rattle.syntax.specs.Symbols.{asArray}
+use Rattle.tree.specs.Symbols.{asArray}
 use Rattle.symbols.specs.Trees.{treeOperand, treeSymbol}
-use Rattle.cells.specs.Answers.{answerOf, treeCellStart}
+use Rattle.parser.specs.Answers.{readOr}
+use Rattle.cells.specs.Answers.{treeCellStart}
 use Rattle.cells.specs.Starts.{cellBy}
-use Rattle.cells.proofs.Laws.{got-with, got-read, got-failed, then-got, then-failed, read-answer, failed-answer}
-use Rattle.cells.proofs.Names.{no-array}
+use Rattle.parser.proofs.Answers.{got-with, got-read, got-failed, then-got, then-failed, read-answer, failed-answer}
+use Rattle.cells.proofs.StartNames.{no-array}
 use borrow.Author.Needs.{needs}
 use Rattle.cells.proofs.cell.cell_start_of.Statement.{statement}
 use Rattle.cells.proofs.cell.cell_start_of.Tie as tie
@@ -36,7 +37,7 @@ returns-2 c =
     rw (no-array _ (c .before .before .before .match .keys2)) (read-answer _ (then-got _ (got-read (got-with _ (c .before .before .operand-of .ensures)) q)) q)
 
 returns-3 : tie.Need-returns-3
-unfolding answerOf cellBy asArray treeSymbol treeCellStart
+unfolding readOr cellBy asArray treeSymbol treeCellStart
 returns-3 c = rw (c .before .symbol .given .1)
 
 pub cell-start-of-spec : {M : Type 1} → statement M

@@ -1,9 +1,9 @@
 use mathlib.Core.Path.{_∙_}
 use borrow.Author.Tests.{eq-eqb, ne-eqb}
-use Rattle.syntax.specs.Cells.{parseLoneCell}
-use Rattle.syntax.specs.Parse.{failAt}
+use Rattle.grammar.specs.Cells.{parseLoneCell}
+use Rattle.grammar.specs.Parse.{failAt}
 use Rattle.symbols.specs.Trees.{treeOperand, treeCell}
-use Rattle.cells.proofs.Laws.{got-with, got-read, then-got, pass-answer, read-answer, failed-answer}
+use Rattle.parser.proofs.Answers.{got-with, got-read, then-got, pass-answer, read-answer, failed-answer}
 use borrow.Author.Needs.{needs}
 use Rattle.cells.proofs.cell.lone_cell_at.Statement.{statement}
 use Rattle.cells.proofs.cell.lone_cell_at.Tie as tie

@@ -1,9 +1,9 @@
-use Rattle.syntax.specs.Symbols.{asOperand}
+use Rattle.tree.specs.Symbols.{asOperand}
 use Rattle.symbols.specs.Trees.{treeOperand, treeSymbol}
-use Rattle.cells.specs.Answers.{answerOf}
+use Rattle.parser.specs.Answers.{readOr}
 use Rattle.cells.specs.Starts.{operandBy}
-use Rattle.cells.proofs.Laws.{refused-with}
-use Rattle.cells.proofs.Names.{no-operand}
+use Rattle.parser.proofs.Answers.{refused-with}
+use Rattle.cells.proofs.StartNames.{no-operand}
 use borrow.Author.Needs.{needs}
 use Rattle.cells.proofs.cell.operand_of.Statement.{statement}
 use Rattle.cells.proofs.cell.operand_of.Tie as tie
@@ -24,15 +24,15 @@ no-operand-requires : tie.Need-no-operand-requires
 no-operand-requires c κs = search needs
 
 returns : tie.Need-returns
-unfolding answerOf operandBy asOperand treeOperand treeSymbol
+unfolding readOr operandBy asOperand treeOperand treeSymbol
 returns c = rw (c .before .symbol .given .1)
 
 returns-2 : tie.Need-returns-2
-unfolding answerOf operandBy asOperand treeOperand treeSymbol
+unfolding readOr operandBy asOperand treeOperand treeSymbol
 returns-2 c = rw (c .before .symbol2 .given .1)
 
 returns-3 : tie.Need-returns-3
-unfolding answerOf operandBy asOperand treeOperand treeSymbol
+unfolding readOr operandBy asOperand treeOperand treeSymbol
 returns-3 c = rw (c .before .symbol3 .given .1)
 
 returns-4 : tie.Need-returns-4

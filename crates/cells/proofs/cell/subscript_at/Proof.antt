@@ -1,9 +1,9 @@
--- A failure is passed upward, or what comes next decides. Assumes nothing.
+-- A failure is passed upward, or what comes next decides.
 use mathlib.Core.Path.{sym, ap, _∙_}
-use Rattle.syntax.specs.Cells.{parseSubscript}
+use Rattle.grammar.specs.Cells.{parseSubscript}
 use Rattle.symbols.specs.Trees.{treeSubscript}
-use Rattle.cells.specs.Answers.{answerOf}
-use Rattle.cells.proofs.Laws.{got-with, got-read, part-read, part-failed, then-got, then-failed, pass-answer, read-answer, failed-answer}
+use Rattle.parser.specs.Answers.{readOr}
+use Rattle.parser.proofs.Answers.{got-with, got-read, part-read, part-failed, then-got, then-failed, pass-answer, read-answer, failed-answer}
 use borrow.Author.Needs.{needs}
 use Rattle.cells.proofs.cell.subscript_at.Statement.{statement}
 use Rattle.cells.proofs.cell.subscript_at.Tie as tie
@@ -36,7 +36,7 @@ returns-2 : tie.Need-returns-2
 unfolding parseSubscript
 returns-2 c =
     let left = c .before .before .before .before in
-    pass-answer _ _ _ (c .before .before .inner-subscript-at .ensures) (c .enum-told2 .given .1) ∙ ap (answerOf _) (sym (then-got _ (part-read _ (left .before .before .expect .ensures) (left .part .given .1) .is)))
+    pass-answer _ _ _ (c .before .before .inner-subscript-at .ensures) (c .enum-told2 .given .1) ∙ ap (readOr _) (sym (then-got _ (part-read _ (left .before .before .expect .ensures) (left .part .given .1) .is)))
 
 expect-requires-2 : tie.Need-expect-requires-2
 expect-requires-2 c κs = search needs

@@ -1,5 +1,4 @@
--- `demand::demand_one_called` meets its contract, by proofs/Outcomes. Assumes nothing.
-use Rattle.compiler.proofs.Outcomes.{demand1-called}
+use Rattle.compiler.proofs.DemandOne.{demand1-called}
 use Rattle.compiler.proofs.demand.demand_one_called.Statement.{statement}
 use Rattle.compiler.proofs.demand.demand_one_called.Tie as tie
 

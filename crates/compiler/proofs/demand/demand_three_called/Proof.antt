@@ -1,5 +1,4 @@
--- `demand::demand_three_called` meets its contract, by proofs/Closing. Assumes nothing.
-use Rattle.compiler.proofs.Closing.{demand3-called}
+use Rattle.compiler.proofs.DemandThree.{demand3-called}
 use Rattle.compiler.proofs.demand.demand_three_called.Statement.{statement}
 use Rattle.compiler.proofs.demand.demand_three_called.Tie as tie
 

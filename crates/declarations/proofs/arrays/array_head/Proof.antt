@@ -1,9 +1,8 @@
--- `arrays::array_head` meets its contract. Assumes nothing.
 use native.Mathlib.Omega.{arith}
-use Rattle.cells.specs.Reads.Reads.{fails}
-use Rattle.cells.proofs.Reading.{failed-as}
-use Rattle.declarations.proofs.Arraying.{head-name, head-size, head-closing}
-use Rattle.declarations.proofs.Reading.{gives, gives-read}
+use Rattle.parser.specs.Reads.Reads.{fails}
+use Rattle.parser.proofs.ReadLaws.{failed-as}
+use Rattle.declarations.proofs.ArrayLaws.{head-name, head-size, head-closing}
+use Rattle.declarations.proofs.ParseLaws.{gives, gives-read}
 use borrow.Author.Needs.{needs}
 use Rattle.declarations.proofs.arrays.array_head.Statement.{statement}
 use Rattle.declarations.proofs.arrays.array_head.Tie as tie
@@ -30,7 +29,10 @@ enum-told-2 : tie.Need-enum-told-2
 enum-told-2 c = search needs
 
 returns-2 : tie.Need-returns-2
-returns-2 c = fails (head-size _ _ _ (gives-read (c .before .before .before .before .before .before .before .global-name .ensures) (c .before .before .before .before .part .given .1)) (failed-as (c .before .before .bracketed .ensures) (c .enum-told2 .given .1))) (c .enum-told2 .given .1) tt
+returns-2 c =
+    let at-part = c .before .before .before .before in
+    let at-global-name = at-part .before .before .before in
+    fails (head-size _ _ _ (gives-read (at-global-name .global-name .ensures) (at-part .part .given .1)) (failed-as (c .before .before .bracketed .ensures) (c .enum-told2 .given .1))) (c .enum-told2 .given .1) tt
 
 size-of-requires : tie.Need-size-of-requires
 size-of-requires c κs = search needs
@@ -39,7 +41,13 @@ closing-requires : tie.Need-closing-requires
 closing-requires c κs = search needs
 
 returns-3 : tie.Need-returns-3
-returns-3 c = gives _ (head-closing _ _ _ (gives-read (c .before .before .before .before .before .before .before .before .before .before .before .global-name .ensures) (c .before .before .before .before .before .before .before .before .part .given .1)) _ _ _ _ (c .before .before .size-of .ensures) (gives-read (c .before .before .before .before .before .before .bracketed .ensures) (c .before .before .before .before .part2 .given .1)) (c .closing .ensures))
+returns-3 c =
+    let at-size-of = c .before .before in
+    let at-part2 = at-size-of .before .before in
+    let at-bracketed = at-part2 .before .before in
+    let at-part = at-bracketed .before .before in
+    let at-global-name = at-part .before .before .before in
+    gives _ (head-closing _ _ _ (gives-read (at-global-name .global-name .ensures) (at-part .part .given .1)) _ _ _ _ (at-size-of .size-of .ensures) (gives-read (at-bracketed .bracketed .ensures) (at-part2 .part2 .given .1)) (c .closing .ensures))
 
 pub array-head-spec : {M : Type 1} → statement M
 array-head-spec =

@@ -1,10 +1,9 @@
--- `arrays::arrays` meets its contract. Assumes nothing.
-use Rattle.cells.specs.Reads.Reads.{fails}
-use Rattle.syntax.specs.Declarations.{parseList}
+use Rattle.parser.specs.Reads.Reads.{fails}
+use Rattle.grammar.specs.Declarations.{parseList}
 use Rattle.declarations.specs.Forms.{arraysIn}
 use borrow.Author.Needs.{needs}
-use Rattle.cells.proofs.Laws.{then-got, then-failed}
-use Rattle.cells.proofs.Reading.{came, failed-as, ended-by}
+use Rattle.parser.proofs.Answers.{then-got, then-failed}
+use Rattle.parser.proofs.ReadLaws.{came, failed-as, ended-by}
 use Rattle.declarations.proofs.arrays.arrays.Statement.{statement}
 use Rattle.declarations.proofs.arrays.arrays.Tie as tie
 
@@ -39,7 +38,9 @@ same-length-4 c = search needs
 returns-2 : tie.Need-returns-2
 unfolding arraysIn parseList
 returns-2 c =
-    let r = came (c .before .before .before .before .before .before .before .before .before .array-list .ensures) (c .before .before .before .part .given .1) in
+    let at-part = c .before .before .before in
+    let at-array-list = at-part .before .before .before .before .before .before in
+    let r = came (at-array-list .array-list .ensures) (at-part .part .given .1) in
     ended-by _ _ (then-got _ (r .is)) (c .expect .ensures) (r .holds) tt
 
 pub arrays-spec : {M : Type 1} → statement M

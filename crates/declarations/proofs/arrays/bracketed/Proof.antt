@@ -1,8 +1,7 @@
--- `arrays::bracketed` meets its contract. Assumes nothing.
 use mathlib.Core.Path.{sym, _∙_}
-use Rattle.cells.specs.Reads.Reads.{fails}
-use Rattle.cells.proofs.Laws.{then-got, then-failed, part-failed, got-with}
-use Rattle.declarations.proofs.Reading.{expected, gives}
+use Rattle.parser.specs.Reads.Reads.{fails}
+use Rattle.parser.proofs.Answers.{then-got, then-failed, part-failed, got-with}
+use Rattle.declarations.proofs.ParseLaws.{expected, gives}
 use borrow.Author.Needs.{needs}
 use Rattle.declarations.proofs.arrays.bracketed.Statement.{statement}
 use Rattle.declarations.proofs.arrays.bracketed.Tie as tie

@@ -1,9 +1,8 @@
--- `arrays::closing` meets its contract. Assumes nothing.
 use mathlib.Core.Path.{ap, _∙_}
-use Rattle.syntax.specs.Parse.{failAt, within}
-use Rattle.syntax.specs.Parse.Got.{got}
-use Rattle.cells.specs.Answers.{partOf}
-use Rattle.declarations.proofs.Arraying.{closing-other, closing-on}
+use Rattle.grammar.specs.Parse.{failAt, within}
+use Rattle.grammar.specs.Parse.Got.{got}
+use Rattle.parser.specs.Answers.{partOf}
+use Rattle.declarations.proofs.ArrayLaws.{closing-other, closing-on}
 use borrow.Author.Needs.{needs}
 use Rattle.declarations.proofs.arrays.closing.Statement.{statement}
 use Rattle.declarations.proofs.arrays.closing.Tie as tie
@@ -25,7 +24,9 @@ pass-at-requires : tie.Need-pass-at-requires
 pass-at-requires c κs = search needs
 
 returns-2 : tie.Need-returns-2
-returns-2 c = closing-on _ _ _ (c .before .before .before .before .token-at .ensures) (c .before .before .if1 .left) (c .pass-at .ensures ∙ ap (λ l. partOf (within l (c .before .before .before .before .token-at .result) (got 0 (c .before .before .before .before .token-at .result .next)))) (c .before .space-limit .ensures))
+returns-2 c =
+    let at-token-at = c .before .before .before .before in
+    closing-on _ _ _ (at-token-at .token-at .ensures) (c .before .before .if1 .left) (c .pass-at .ensures ∙ ap (λ l. partOf (within l (at-token-at .token-at .result) (got 0 (at-token-at .token-at .result .next)))) (c .before .space-limit .ensures))
 
 pub closing-spec : {M : Type 1} → statement M
 closing-spec =

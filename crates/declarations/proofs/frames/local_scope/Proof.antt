@@ -1,7 +1,6 @@
--- `frames::local_scope` meets its contract. Assumes nothing.
 use native.Mathlib.Omega.{arith}
 use Rattle.symbols.specs.Trees.{treeSymbol}
-use Rattle.declarations.proofs.Proceeding.{inner-is}
+use Rattle.declarations.proofs.ProcedureLaws.{inner-is}
 use borrow.Author.Needs.{needs}
 use Rattle.declarations.proofs.frames.local_scope.Statement.{statement}
 use Rattle.declarations.proofs.frames.local_scope.Tie as tie
@@ -20,7 +19,10 @@ same-length c = search needs
 
 returns : tie.Need-returns
 unfolding treeSymbol
-returns c = inner-is (c .before .before .before .before .before .args .state) _ _ _ (c .before .before .before .before .before .pre .1) (c .before .before .before .before .before .pre .2) (c .before .before .declare .kept .0) (c .before .before .declare .ensures)
+returns c =
+    let at-declare = c .before .before in
+    let entry = at-declare .before .before .before in
+    inner-is (entry .args .allocation) _ _ _ (entry .pre .1) (entry .pre .2) (at-declare .declare .kept .0) (at-declare .declare .ensures)
 
 pub local-scope-spec : {M : Type 1} → statement M
 local-scope-spec =

@@ -1,8 +1,7 @@
--- `globals::global_name` meets its contract. Assumes nothing.
 use mathlib.Core.Path.{ap, sym}
 use native.Mathlib.Omega.{arith}
-use Rattle.cells.proofs.Reading.{reads-on}
-use Rattle.declarations.proofs.Arraying.{global-name}
+use Rattle.parser.proofs.ReadLaws.{reads-on}
+use Rattle.declarations.proofs.ArrayLaws.{global-name}
 use borrow.Author.Needs.{needs}
 use Rattle.declarations.proofs.globals.global_name.Statement.{statement}
 use Rattle.declarations.proofs.globals.global_name.Tie as tie
@@ -17,7 +16,9 @@ new-name-requires : tie.Need-new-name-requires
 new-name-requires c κs = let e = ap (λ s. s .names) (c .before .global-scope .ensures) in let p = c .before .before .before .before .pre in omega (arith, e, p)
 
 returns : tie.Need-returns
-returns c = reads-on (sym (global-name (c .before .before .before .before .before .args .source .now) (c .before .before .before .before .before .args .state) (c .before .before .before .before .before .args .table .now) _ (c .before .before .global-scope .ensures) (c .before .name-limit .ensures))) (c .new-name .ensures)
+returns c =
+    let entry = c .before .before .before .before .before in
+    reads-on (sym (global-name (entry .args .source .now) (entry .args .allocation) (entry .args .table .now) _ (c .before .before .global-scope .ensures) (c .before .name-limit .ensures))) (c .new-name .ensures)
 
 pub global-name-spec : {M : Type 1} → statement M
 global-name-spec =

@@ -1,10 +1,9 @@
--- `items::item_at` meets its contract. Assumes nothing.
 use mathlib.Core.Path.{sym}
-use Rattle.cells.specs.Reads.Reads.{fails}
-use Rattle.cells.proofs.Reading.{failed-as, reads-on}
-use Rattle.declarations.specs.Scopes.{treeWord}
-use Rattle.declarations.proofs.Reading.{gives-read}
-use Rattle.declarations.proofs.Scoping.{named-by, item-failed, item-on}
+use Rattle.parser.specs.Reads.Reads.{fails}
+use Rattle.parser.proofs.ReadLaws.{failed-as, reads-on}
+use Rattle.declarations.specs.Scopes.{treeKeyword}
+use Rattle.declarations.proofs.ParseLaws.{gives-read}
+use Rattle.declarations.proofs.ScopeLaws.{named-by, item-failed, item-on}
 use borrow.Author.Needs.{needs}
 use Rattle.declarations.proofs.items.item_at.Statement.{statement}
 use Rattle.declarations.proofs.items.item_at.Tie as tie
@@ -22,13 +21,22 @@ enum-told : tie.Need-enum-told
 enum-told c = search needs
 
 returns : tie.Need-returns
-returns c = fails (item-failed _ _ _ (treeWord (c .before .before .before .before .before .before .before .args .word)) (failed-as (reads-on (sym (named-by _ (treeWord (c .before .before .before .before .before .before .before .args .word)) (c .before .before .before .before .before .before .before .args .scope) (c .before .before .before .before .before .before .before .args .table .now) _ (c .before .before .before .before .item-limit .ensures))) (c .before .before .before .new-name .ensures)) (c .enum-told .given .1))) (c .enum-told .given .1) tt
+returns c =
+    let at-new-name = c .before .before .before in
+    let at-item-limit = at-new-name .before in
+    let entry = at-item-limit .before .before .before in
+    fails (item-failed _ _ _ (treeKeyword (entry .args .keyword)) (failed-as (reads-on (sym (named-by _ (treeKeyword (entry .args .keyword)) (entry .args .scope) (entry .args .table .now) _ (at-item-limit .item-limit .ensures))) (at-new-name .new-name .ensures)) (c .enum-told .given .1))) (c .enum-told .given .1) tt
 
 item-from-requires : tie.Need-item-from-requires
 item-from-requires c κs = search needs
 
 returns-2 : tie.Need-returns-2
-returns-2 c = reads-on (item-on _ _ _ (treeWord (c .before .before .before .before .before .before .before .before .before .args .word)) (gives-read (reads-on (sym (named-by _ (treeWord (c .before .before .before .before .before .before .before .before .before .args .word)) (c .before .before .before .before .before .before .before .before .before .args .scope) (c .before .before .before .before .before .before .before .before .before .args .table .now) _ (c .before .before .before .before .before .before .item-limit .ensures))) (c .before .before .before .before .before .new-name .ensures)) (c .before .before .part .given .1))) (c .item-from .ensures)
+returns-2 c =
+    let at-part = c .before .before in
+    let at-new-name = at-part .before .before .before in
+    let at-item-limit = at-new-name .before in
+    let entry = at-item-limit .before .before .before in
+    reads-on (item-on _ _ _ (treeKeyword (entry .args .keyword)) (gives-read (reads-on (sym (named-by _ (treeKeyword (entry .args .keyword)) (entry .args .scope) (entry .args .table .now) _ (at-item-limit .item-limit .ensures))) (at-new-name .new-name .ensures)) (at-part .part .given .1))) (c .item-from .ensures)
 
 pub item-at-spec : {M : Type 1} → statement M
 item-at-spec =

@@ -1,6 +1,5 @@
--- `items::item_from` meets its contract. Assumes nothing.
-use Rattle.declarations.specs.Scopes.{treeWord, treeItem}
-use Rattle.declarations.proofs.Scoping.{from-integer, from-constant, from-compconstant}
+use Rattle.declarations.specs.Scopes.{treeKeyword, treeItem}
+use Rattle.declarations.proofs.ScopeLaws.{from-integer, from-constant, from-compconstant}
 use borrow.Author.Needs.{needs}
 use Rattle.declarations.proofs.items.item_from.Statement.{statement}
 use Rattle.declarations.proofs.items.item_from.Tie as tie
@@ -21,15 +20,15 @@ value-at-requires-2 : tie.Need-value-at-requires-2
 value-at-requires-2 c κs = search needs
 
 returns : tie.Need-returns
-unfolding treeWord treeItem
+unfolding treeKeyword treeItem
 returns c = rw (c .enum-told .given .1) (from-integer _ _ _ _)
 
 returns-2 : tie.Need-returns-2
-unfolding treeWord treeItem
+unfolding treeKeyword treeItem
 returns-2 c = rw (c .before .enum-told2 .given .1) (from-constant _ _ _ _ (c .value-at .ensures))
 
 returns-3 : tie.Need-returns-3
-unfolding treeWord treeItem
+unfolding treeKeyword treeItem
 returns-3 c = rw (c .before .enum-told3 .given .1) (from-compconstant _ _ _ _ (c .value-at2 .ensures))
 
 pub item-from-spec : {M : Type 1} → statement M

@@ -1,6 +1,5 @@
--- `items::item_limit` meets its contract. Assumes nothing.
-use Rattle.syntax.specs.Declarations.{itemLimit}
-use Rattle.declarations.specs.Scopes.{treeWord}
+use Rattle.grammar.specs.Declarations.{itemLimit}
+use Rattle.declarations.specs.Scopes.{treeKeyword}
 use borrow.Author.Needs.{needs}
 use Rattle.declarations.proofs.items.item_limit.Statement.{statement}
 use Rattle.declarations.proofs.items.item_limit.Tie as tie
@@ -21,15 +20,15 @@ enum-told-3 : tie.Need-enum-told-3
 enum-told-3 c = search needs
 
 returns : tie.Need-returns
-unfolding itemLimit treeWord
+unfolding itemLimit treeKeyword
 returns c = rw (c .before .enum-told .given .1) (c .name-limit .ensures)
 
 returns-2 : tie.Need-returns-2
-unfolding itemLimit treeWord
+unfolding itemLimit treeKeyword
 returns-2 c = rw (c .before .enum-told2 .given .1) (c .name-limit2 .ensures)
 
 returns-3 : tie.Need-returns-3
-unfolding itemLimit treeWord
+unfolding itemLimit treeKeyword
 returns-3 c = rw (c .enum-told3 .given .1)
 
 pub item-limit-spec : {M : Type 1} → statement M

@@ -1,4 +1,4 @@
-use Rattle.syntax.specs.Symbols.{itemSymbol}
+use Rattle.tree.specs.Symbols.{itemSymbol}
 use Rattle.symbols.specs.Trees.{treeSymbol}
 use Rattle.declarations.specs.Scopes.{treeItem}
 use borrow.Author.Needs.{needs}

@@ -1,11 +1,10 @@
--- `limits::sector_limit` meets its contract. Assumes nothing.
 use native.Mathlib.Omega.{arith}
 use mathlib.Core.Path.{_≡_, sym, ap, _∙_}
 use Prim.Native.Nat.{_+_}
 use lib.ListN.{length}
-use Rattle.emitter.specs.Emitted.{heldBy}
-use Rattle.declarations.specs.States.{spaceNumber}
-use Rattle.declarations.proofs.Limiting.{sector-on, sector-over}
+use Rattle.emitter.specs.Emitted.{literalsIn}
+use Rattle.declarations.specs.Allocations.{spaceNumber}
+use Rattle.declarations.proofs.LimitLaws.{sector-on, sector-over}
 use borrow.Author.Needs.{needs}
 use Rattle.declarations.proofs.limits.sector_limit.Statement.{statement}
 use Rattle.declarations.proofs.limits.sector_limit.Tie as tie
@@ -30,9 +29,10 @@ space-limit-requires c κs = search needs
 
 returns : tie.Need-returns
 returns c =
-    let o = c .before .before .before .before .before .args .output in
-    let z : o .code + length (heldBy (o .pool)) + 0 ≡ o .code + length (heldBy (o .pool)) = omega arith in
-    c .space-limit .ensures ∙ ap (λ w. spaceNumber w (c .before .before .before .before .before .args .array)) z ∙ sym (sector-on _ _ _ (omega (arith, c .before .before .held-count .ensures .0, c .before .if1 .taken)))
+    let entry = c .before .before .before .before .before in
+    let o = entry .args .output in
+    let z : o .next + length (literalsIn (o .pool)) + 0 ≡ o .next + length (literalsIn (o .pool)) = omega arith in
+    c .space-limit .ensures ∙ ap (λ w. spaceNumber w (entry .args .array)) z ∙ sym (sector-on _ _ _ (omega (arith, c .before .before .held-count .ensures .0, c .before .if1 .taken)))
 
 returns-2 : tie.Need-returns-2
 returns-2 c = sym (sector-over _ _ _ (omega (arith, c .before .held-count .ensures .0, c .if1 .left)))

@@ -1,6 +1,5 @@
--- `limits::space_limit` meets its contract. Assumes nothing.
 use native.Mathlib.Omega.{arith}
-use Rattle.declarations.proofs.Limiting.{space-on, space-over}
+use Rattle.declarations.proofs.LimitLaws.{space-on, space-over}
 use borrow.Author.Needs.{needs}
 use Rattle.declarations.proofs.limits.space_limit.Statement.{statement}
 use Rattle.declarations.proofs.limits.space_limit.Tie as tie

@@ -1,9 +1,8 @@
--- `lists::items` meets its contract. Assumes nothing.
 use borrow.Author.Needs.{needs}
-use Rattle.cells.specs.Reads.Reads.{fails}
-use Rattle.syntax.specs.Declarations.{parseList}
-use Rattle.cells.proofs.Laws.{then-got, then-failed}
-use Rattle.cells.proofs.Reading.{came, failed-as, ended-by}
+use Rattle.parser.specs.Reads.Reads.{fails}
+use Rattle.grammar.specs.Declarations.{parseList}
+use Rattle.parser.proofs.Answers.{then-got, then-failed}
+use Rattle.parser.proofs.ReadLaws.{came, failed-as, ended-by}
 use Rattle.declarations.proofs.lists.items.Statement.{statement}
 use Rattle.declarations.proofs.lists.items.Tie as tie
 
@@ -38,7 +37,9 @@ same-length-4 c = search needs
 returns-2 : tie.Need-returns-2
 unfolding parseList
 returns-2 c =
-    let r = came (c .before .before .before .before .before .before .before .before .before .item-list .ensures) (c .before .before .before .part .given .1) in
+    let at-part = c .before .before .before in
+    let at-item-list = at-part .before .before .before .before .before .before in
+    let r = came (at-item-list .item-list .ensures) (at-part .part .given .1) in
     ended-by _ _ (then-got _ (r .is)) (c .expect .ensures) (r .holds) tt
 
 pub items-spec : {M : Type 1} → statement M

@@ -1,6 +1,5 @@
--- `names::name_failure` meets its contract. Assumes nothing.
-use Rattle.syntax.specs.Declarations.{isTaken}
-use Rattle.declarations.proofs.Naming.{held-length, failure-kind, failure-taken, failure-full, failure-limit}
+use Rattle.tree.specs.Symbols.{isTaken}
+use Rattle.declarations.proofs.NameLaws.{held-length, failure-kind, failure-taken, failure-full, failure-limit}
 use borrow.Author.Needs.{needs}
 use Rattle.declarations.proofs.names.name_failure.Statement.{statement}
 use Rattle.declarations.proofs.names.name_failure.Tie as tie
@@ -23,11 +22,25 @@ returns-2 c = failure-taken _ _ _ _ (c .before .before .before .before .before .
 
 returns-3 : tie.Need-returns-3
 unfolding isTaken
-returns-3 c = failure-full _ _ _ _ (c .before .before .before .before .before .before .before .token-at .ensures) (c .before .before .before .before .before .if1 .left) (c .before .before .before .before .pack .ensures) (c .before .before .before .is-taken .ensures) (c .before .before .if2 .left) (held-length _ _ (c .before .before .before .before .before .before .before .before .before .before .pre)) (c .if3 .taken)
+returns-3 c =
+    let at-if2 = c .before .before in
+    let at-is-taken = at-if2 .before in
+    let at-pack = at-is-taken .before in
+    let at-if1 = at-pack .before in
+    let at-token-at = at-if1 .before .before in
+    let entry = at-token-at .before .before .before in
+    failure-full _ _ _ _ (at-token-at .token-at .ensures) (at-if1 .if1 .left) (at-pack .pack .ensures) (at-is-taken .is-taken .ensures) (at-if2 .if2 .left) (held-length _ _ (entry .pre)) (c .if3 .taken)
 
 returns-4 : tie.Need-returns-4
 unfolding isTaken
-returns-4 c = failure-limit _ _ _ _ (c .before .before .before .before .before .before .before .token-at .ensures) (c .before .before .before .before .before .if1 .left) (c .before .before .before .before .pack .ensures) (c .before .before .before .is-taken .ensures) (c .before .before .if2 .left) (held-length _ _ (c .before .before .before .before .before .before .before .before .before .before .pre)) (c .if3 .left)
+returns-4 c =
+    let at-if2 = c .before .before in
+    let at-is-taken = at-if2 .before in
+    let at-pack = at-is-taken .before in
+    let at-if1 = at-pack .before in
+    let at-token-at = at-if1 .before .before in
+    let entry = at-token-at .before .before .before in
+    failure-limit _ _ _ _ (at-token-at .token-at .ensures) (at-if1 .if1 .left) (at-pack .pack .ensures) (at-is-taken .is-taken .ensures) (at-if2 .if2 .left) (held-length _ _ (entry .pre)) (c .if3 .left)
 
 pub name-failure-spec : {M : Type 1} → statement M
 name-failure-spec =

@@ -1,6 +1,5 @@
--- `names::name_limit` meets its contract. Assumes nothing.
-use Rattle.syntax.specs.Limits.{nameLimit}
-use Rattle.declarations.proofs.Naming.{limit-full, limit-none, limit-local}
+use Rattle.layout.specs.Limits.{nameLimit}
+use Rattle.declarations.proofs.NameLaws.{limit-full, limit-none, limit-local}
 use Rattle.declarations.proofs.names.name_limit.Statement.{statement}
 use Rattle.declarations.proofs.names.name_limit.Tie as tie
 

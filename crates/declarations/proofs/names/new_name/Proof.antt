@@ -1,6 +1,5 @@
--- `names::new_name` meets its contract. Assumes nothing.
-use Rattle.declarations.proofs.Reading.{gives}
-use Rattle.declarations.proofs.Naming.{new-is}
+use Rattle.declarations.proofs.ParseLaws.{gives}
+use Rattle.declarations.proofs.NameLaws.{new-is}
 use borrow.Author.Needs.{needs}
 use Rattle.declarations.proofs.names.new_name.Statement.{statement}
 use Rattle.declarations.proofs.names.new_name.Tie as tie

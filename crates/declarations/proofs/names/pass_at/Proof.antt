@@ -1,8 +1,7 @@
--- `names::pass_at` meets its contract. Assumes nothing.
 use mathlib.Core.Path.{sym, ap, _∙_}
-use Rattle.syntax.specs.Parse.{failAt}
-use Rattle.cells.specs.Answers.{partOf}
-use Rattle.declarations.proofs.Reading.{within-on, within-failed}
+use Rattle.grammar.specs.Parse.{failAt}
+use Rattle.parser.specs.Answers.{partOf}
+use Rattle.declarations.proofs.ParseLaws.{within-on, within-failed}
 use borrow.Author.Needs.{needs}
 use Rattle.declarations.proofs.names.pass_at.Statement.{statement}
 use Rattle.declarations.proofs.names.pass_at.Tie as tie

@@ -1,10 +1,9 @@
--- `procedures::heading` meets its contract. Assumes nothing.
 use native.Mathlib.Omega.{arith}
-use Rattle.cells.specs.Reads.Reads.{fails}
-use Rattle.cells.proofs.Reading.{failed-as}
-use Rattle.cells.proofs.Laws.{part-failed}
-use Rattle.declarations.proofs.Reading.{expected, gives-read}
-use Rattle.declarations.proofs.Proceeding.{heading-name, heading-semicolon, heading-begin}
+use Rattle.parser.specs.Reads.Reads.{fails}
+use Rattle.parser.proofs.ReadLaws.{failed-as}
+use Rattle.parser.proofs.Answers.{part-failed}
+use Rattle.declarations.proofs.ParseLaws.{expected, gives-read}
+use Rattle.declarations.proofs.ProcedureLaws.{heading-name, heading-semicolon, heading-begin}
 use borrow.Author.Needs.{needs}
 use Rattle.declarations.proofs.procedures.heading.Statement.{statement}
 use Rattle.declarations.proofs.procedures.heading.Tie as tie
@@ -31,13 +30,21 @@ enum-told-2 : tie.Need-enum-told-2
 enum-told-2 c = search needs
 
 returns-2 : tie.Need-returns-2
-returns-2 c = fails (heading-semicolon _ _ _ (gives-read (c .before .before .before .before .before .before .before .global-name .ensures) (c .before .before .before .before .part .given .1)) (part-failed _ (c .before .before .expect .ensures) (c .enum-told2 .given .1))) (c .enum-told2 .given .1) tt
+returns-2 c =
+    let at-part = c .before .before .before .before in
+    let at-global-name = at-part .before .before .before in
+    fails (heading-semicolon _ _ _ (gives-read (at-global-name .global-name .ensures) (at-part .part .given .1)) (part-failed _ (c .before .before .expect .ensures) (c .enum-told2 .given .1))) (c .enum-told2 .given .1) tt
 
 expect-requires-2 : tie.Need-expect-requires-2
 expect-requires-2 c κs = search needs
 
 returns-3 : tie.Need-returns-3
-returns-3 c = heading-begin _ _ _ (gives-read (c .before .before .before .before .before .before .before .before .before .global-name .ensures) (c .before .before .before .before .before .before .part .given .1)) (expected _ _ _ (c .before .before .before .before .expect .ensures) (c .before .before .part2 .given .1)) (c .expect2 .ensures)
+returns-3 c =
+    let at-part2 = c .before .before in
+    let at-expect = at-part2 .before .before in
+    let at-part = at-expect .before .before in
+    let at-global-name = at-part .before .before .before in
+    heading-begin _ _ _ (gives-read (at-global-name .global-name .ensures) (at-part .part .given .1)) (expected _ _ _ (at-expect .expect .ensures) (at-part2 .part2 .given .1)) (c .expect2 .ensures)
 
 pub heading-spec : {M : Type 1} → statement M
 heading-spec =

@@ -1,4 +1,3 @@
--- `program::begins` meets its contract. Assumes nothing.
 use borrow.Author.Tests.{le-leb, lt-leb}
 use Rattle.declarations.proofs.program.begins.Statement.{statement}
 use Rattle.declarations.proofs.program.begins.Tie as tie

@@ -1,13 +1,13 @@
--- `program::declarations` meets its contract. The invariant: from `from` on, with the declarations that are done, the definition reads what it reads from `at` on. Assumes nothing.
+-- The invariant: from `from` on, with the declarations that are done, the definition reads what it reads from `at` on.
 use mathlib.Core.Path.{_≡_, refl, sym, _∙_}
 use lib.ListN.{length}
 use native.Mathlib.Omega.{arith}
 use borrow.Author.Tests.{not-true, not-false}
-use Rattle.syntax.specs.Declarations.{parseDeclarations}
-use Rattle.declarations.specs.States.{endOf, Declared}
-use Rattle.cells.proofs.Reading.{Turning, turn-zero, turn-none, turn-failed, turn-next}
-use Rattle.declarations.proofs.Stating.{none-declared}
-use Rattle.declarations.proofs.Dispatching.{declarationMore, declarations-first, declaration-none, declaration-some, declaration-next}
+use Rattle.grammar.specs.Declarations.{parseDeclarations}
+use Rattle.declarations.specs.Allocations.{endOf, Declared}
+use Rattle.parser.proofs.ReadLaws.{Turning, turn-zero, turn-none, turn-failed, turn-next}
+use Rattle.declarations.proofs.AllocationLaws.{none-declared}
+use Rattle.declarations.proofs.FormLaws.{declarationMore, declarations-first, declaration-none, declaration-some, declaration-next}
 use borrow.Author.Needs.{needs}
 use Rattle.declarations.proofs.program.declarations.Statement.{statement}
 use Rattle.declarations.proofs.program.declarations.Tie as tie
@@ -48,7 +48,11 @@ returns-2 : tie.Need-returns-2 Inv-loop μ-loop
 returns-2 c = turn-none (c .before .before .before .before .loop .inv .0) (declaration-none _ _ _ (c .before .before .before .token-at .ensures) (sym (c .before .begins .ensures) ∙ not-true _ (c .if2 .taken)))
 
 declaration-requires : tie.Need-declaration-requires Inv-loop μ-loop
-declaration-requires c κs = let l = c .before .before .before .before .before .before .loop .inv in let p = c .before .before .before .before .before .before .before .before .before .before .pre .1 in (l .0 .holds .sound, omega (arith, p, l .1))
+declaration-requires c κs =
+    let at-loop = c .before .before .before .before .before .before in
+    let l = at-loop .loop .inv in
+    let p = at-loop .before .before .before .before .pre .1 in
+    (l .0 .holds .sound, omega (arith, p, l .1))
 
 enum-known-part : tie.Need-enum-known-part Inv-loop μ-loop
 enum-known-part c = search needs
@@ -57,13 +61,27 @@ enum-told : tie.Need-enum-told Inv-loop μ-loop
 enum-told c = search needs
 
 same-length-5 : tie.Need-same-length-5 Inv-loop μ-loop
-same-length-5 c = c .before .before .before .before .before .before .declaration .kept .1 .0 ∙ c .before .before .before .before .before .before .before .before .before .before .before .before .before .loop .inv .1
+same-length-5 c =
+    let at-declaration = c .before .before .before .before .before .before in
+    let at-loop = at-declaration .before .before .before .before .before .before .before in
+    at-declaration .declaration .kept .1 .0 ∙ at-loop .loop .inv .1
 
 same-length-6 : tie.Need-same-length-6 Inv-loop μ-loop
-same-length-6 c = c .before .before .before .before .before .before .declaration .kept .1 .1 .0 ∙ c .before .before .before .before .before .before .before .before .before .before .before .before .before .loop .inv .2
+same-length-6 c =
+    let at-declaration = c .before .before .before .before .before .before in
+    let at-loop = at-declaration .before .before .before .before .before .before .before in
+    at-declaration .declaration .kept .1 .1 .0 ∙ at-loop .loop .inv .2
 
 returns-3 : tie.Need-returns-3 Inv-loop μ-loop
-returns-3 c = let l = c .before .before .before .before .before .before .before .before .before .before .before .before .before .loop .inv in turn-failed (l .0) (c .before .before .before .before .before .before .before .before .before .before .before .if1 .left) (declaration-some _ _ _ (c .before .before .before .before .before .before .before .before .before .before .before .before .token-at .ensures) (sym (c .before .before .before .before .before .before .before .before .before .before .begins .ensures) ∙ not-false _ (c .before .before .before .before .before .before .before .before .before .if2 .left))) (declaration-next _ _ (c .before .before .before .before .before .before .before .before .before .before .before .before .before .before .before .before .before .pre .0 .state (c .before .before .before .before .before .before .before .before .before .before .before .before .before .before .before .before .before .args .table .now)) (l .0 .holds) (c .before .before .before .before .before .before .declaration .ensures)) (c .enum-told .given .1)
+returns-3 c =
+    let at-declaration = c .before .before .before .before .before .before in
+    let at-if2 = at-declaration .before .before .before in
+    let at-begins = at-if2 .before in
+    let at-if1 = at-begins .before in
+    let at-token-at = at-if1 .before in
+    let entry = at-token-at .before .before .before .before .before in
+    let l = at-token-at .before .loop .inv in
+    turn-failed (l .0) (at-if1 .if1 .left) (declaration-some _ _ _ (at-token-at .token-at .ensures) (sym (at-begins .begins .ensures) ∙ not-false _ (at-if2 .if2 .left))) (declaration-next _ _ (entry .pre .0 .allocation (entry .args .table .now)) (l .0 .holds) (at-declaration .declaration .ensures)) (c .enum-told .given .1)
 
 sub-left : tie.Need-sub-left Inv-loop μ-loop
 sub-left c = search needs
@@ -73,8 +91,15 @@ loop-less c = search needs
 
 loop-again : tie.Need-loop-again Inv-loop μ-loop
 loop-again c =
-    let l = c .before .before .before .before .before .before .before .before .before .before .before .before .before .before .before .loop .inv in
-    (turn-next (l .0) (c .before .before .before .before .before .before .before .before .before .before .before .before .before .if1 .left) (declaration-some _ _ _ (c .before .before .before .before .before .before .before .before .before .before .before .before .before .before .token-at .ensures) (sym (c .before .before .before .before .before .before .before .before .before .before .before .before .begins .ensures) ∙ not-false _ (c .before .before .before .before .before .before .before .before .before .before .before .if2 .left))) (declaration-next _ _ (c .before .before .before .before .before .before .before .before .before .before .before .before .before .before .before .before .before .before .before .pre .0 .state (c .before .before .before .before .before .before .before .before .before .before .before .before .before .before .before .before .before .before .before .args .table .now)) (l .0 .holds) (c .before .before .before .before .before .before .before .before .declaration .ensures)) (c .before .before .part .given .1), c .before .before .before .before .before .before .before .before .declaration .kept .1 .0 ∙ l .1, c .before .before .before .before .before .before .before .before .declaration .kept .1 .1 .0 ∙ l .2)
+    let at-part = c .before .before in
+    let at-declaration = at-part .before .before .before .before .before .before in
+    let at-if2 = at-declaration .before .before .before in
+    let at-begins = at-if2 .before in
+    let at-if1 = at-begins .before in
+    let at-token-at = at-if1 .before in
+    let entry = at-token-at .before .before .before .before .before in
+    let l = at-token-at .before .loop .inv in
+    (turn-next (l .0) (at-if1 .if1 .left) (declaration-some _ _ _ (at-token-at .token-at .ensures) (sym (at-begins .begins .ensures) ∙ not-false _ (at-if2 .if2 .left))) (declaration-next _ _ (entry .pre .0 .allocation (entry .args .table .now)) (l .0 .holds) (at-declaration .declaration .ensures)) (at-part .part .given .1), at-declaration .declaration .kept .1 .0 ∙ l .1, at-declaration .declaration .kept .1 .1 .0 ∙ l .2)
 
 pub declarations-spec : {M : Type 1} → statement M
 declarations-spec =

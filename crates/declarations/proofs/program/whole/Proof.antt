@@ -1,19 +1,18 @@
--- `program::whole` meets its contract. Assumes nothing.
 use mathlib.Core.Path.{refl, ap, _∙_}
 use native.Mathlib.Omega.{arith}
-use Rattle.cells.specs.Reads.Reads.{fails}
+use Rattle.parser.specs.Reads.Reads.{fails}
 use mathlib.Core.List.{foldl}
-use Rattle.syntax.specs.State.{step, stateAfter}
-use Rattle.cells.proofs.Laws.{part-failed}
-use Rattle.cells.proofs.Reading.{came, failed-as, reads-as}
-use Rattle.declarations.proofs.Reading.{expected}
-use Rattle.declarations.proofs.Finishing.{program-begin, program-declarations, program-main, program-compiled}
+use Rattle.layout.specs.Allocation.{allocate, allocated}
+use Rattle.parser.proofs.Answers.{part-failed}
+use Rattle.parser.proofs.ReadLaws.{came, failed-as, reads-as}
+use Rattle.declarations.proofs.ParseLaws.{expected}
+use Rattle.declarations.proofs.ProgramLaws.{program-begin, program-declarations, program-main, program-compiled}
 use borrow.Author.Needs.{needs}
 use Rattle.declarations.proofs.program.whole.Statement.{statement}
 use Rattle.declarations.proofs.program.whole.Tie as tie
 
-start-state-requires : tie.Need-start-state-requires
-start-state-requires c κs = search needs
+start-allocation-requires : tie.Need-start-allocation-requires
+start-allocation-requires c κs = search needs
 
 expect-requires : tie.Need-expect-requires
 expect-requires c κs = search needs
@@ -28,7 +27,10 @@ returns : tie.Need-returns
 returns c = fails (program-begin _ (part-failed _ (c .before .before .expect .ensures) (c .enum-told .given .1))) (c .enum-told .given .1) tt
 
 declarations-requires : tie.Need-declarations-requires
-declarations-requires c κs = (c .before .before .before .before .before .before .before .start-state .ensures, c .before .before .before .before .before .before .before .before .before .before .before .pre)
+declarations-requires c κs =
+    let at-start-allocation = c .before .before .before .before .before .before .before in
+    let entry = at-start-allocation .before .before .before .before in
+    (at-start-allocation .start-allocation .ensures, entry .pre)
 
 enum-known-part-2 : tie.Need-enum-known-part-2
 enum-known-part-2 c = search needs
@@ -43,36 +45,55 @@ same-length-2 : tie.Need-same-length-2
 same-length-2 c = c .before .before .before .before .before .before .before .declarations .kept .1 .1 .0
 
 returns-2 : tie.Need-returns-2
-returns-2 c = fails (program-declarations _ (expected _ _ _ (c .before .before .before .before .before .before .before .before .before .before .before .before .before .expect .ensures) (c .before .before .before .before .before .before .before .before .before .before .before .part .given .1)) (failed-as (c .before .before .before .before .before .before .before .declarations .ensures) (c .enum-told2 .given .1))) (c .enum-told2 .given .1) tt
+returns-2 c =
+    let at-declarations = c .before .before .before .before .before .before .before in
+    let at-part = at-declarations .before .before .before .before in
+    let at-expect = at-part .before .before in
+    fails (program-declarations _ (expected _ _ _ (at-expect .expect .ensures) (at-part .part .given .1)) (failed-as (at-declarations .declarations .ensures) (c .enum-told2 .given .1))) (c .enum-told2 .given .1) tt
 
 main-body-requires : tie.Need-main-body-requires
 main-body-requires c κs =
-    let r = came (c .before .before .before .before .before .before .before .before .before .before .declarations .ensures) (c .before .before .before .part2 .given .1) in
-    let p = c .before .before .before .before .before .before .before .before .before .before .before .before .before .before .before .before .before .before .before .before .before .before .pre in
-    let k = c .before .before .before .before .before .before .before .before .before .before .declarations .kept .1 .0 in
+    let at-part2 = c .before .before .before in
+    let at-declarations = at-part2 .before .before .before .before .before .before .before in
+    let entry = at-declarations .before .before .before .before .before .before .before .before .before .before .before .before in
+    let r = came (at-declarations .declarations .ensures) (at-part2 .part2 .given .1) in
+    let p = entry .pre in
+    let k = at-declarations .declarations .kept .1 .0 in
     (r .holds .sound, omega (arith, p, k))
 
 same-length-3 : tie.Need-same-length-3
-same-length-3 c = c .before .before .before .before .before .before .before .before .before .before .before .before .before .before .declarations .kept .1 .0
+same-length-3 c =
+    let at-declarations = c .before .before .before .before .before .before .before .before .before .before .before .before .before .before in
+    at-declarations .declarations .kept .1 .0
 
 same-length-4 : tie.Need-same-length-4
-same-length-4 c = c .before .before .before .main-body .kept .1 .1 .0 ∙ c .before .before .before .before .before .before .before .before .before .before .before .before .before .before .declarations .kept .1 .1 .0
+same-length-4 c =
+    let at-main-body = c .before .before .before in
+    let at-declarations = at-main-body .before .before .before .before .before .before .before .before .before .before .before in
+    at-main-body .main-body .kept .1 .1 .0 ∙ at-declarations .declarations .kept .1 .1 .0
 
 returns-3 : tie.Need-returns-3
-unfolding stateAfter
+unfolding allocated
 returns-3 c =
-    let r = came (c .before .before .before .before .before .before .before .before .before .before .before .before .before .before .declarations .ensures) (c .before .before .before .before .before .before .before .part2 .given .1) in
-    let starts = c .before .before .before .before .before .before .before .before .before .before .before .before .before .before .before .before .before .before .before .before .before .before .start-state .ensures .state (c .before .before .before .before .before .before .before .before .before .before .before .before .before .before .before .before .before .before .before .before .before .before .before .before .before .before .args .table .now) in
-    let state = r .holds .state ∙ ap (λ x. foldl step x (r .tree)) starts in
-    reads-as (λ main. record { declarations = r .tree; main = main }) (c .before .before .before .main-body .ensures) refl
-    (program-main _ (expected _ _ _ (c .before .before .before .before .before .before .before .before .before .before .before .before .before .before .before .before .before .before .before .before .expect .ensures) (c .before .before .before .before .before .before .before .before .before .before .before .before .before .before .before .before .before .before .part .given .1)) (r .is) state)
+    let at-main-body = c .before .before .before in
+    let at-part2 = at-main-body .before .before .before .before in
+    let at-declarations = at-part2 .before .before .before .before .before .before .before in
+    let at-part = at-declarations .before .before .before .before in
+    let at-expect = at-part .before .before in
+    let at-start-allocation = at-expect .before .before in
+    let entry = at-start-allocation .before .before .before .before in
+    let r = came (at-declarations .declarations .ensures) (at-part2 .part2 .given .1) in
+    let starts = at-start-allocation .start-allocation .ensures .allocation (entry .args .table .now) in
+    let allocation = r .holds .allocation ∙ ap (λ x. foldl allocate x (r .tree)) starts in
+    reads-as (λ main. record { declarations = r .tree; main = main }) (at-main-body .main-body .ensures) refl
+    (program-main _ (expected _ _ _ (at-expect .expect .ensures) (at-part .part .given .1)) (r .is) allocation)
     (λ main d. program-compiled starts (r .holds) d) (λ w. w)
 
 pub whole-spec : {M : Type 1} → statement M
 whole-spec =
     tie.close
     (tie.spec
-    start-state-requires
+    start-allocation-requires
     expect-requires
     enum-known-part
     enum-told

@@ -1,7 +1,6 @@
--- `sectors::close` meets its contract. Assumes nothing.
 use mathlib.Core.Path.{refl, ap}
-use Rattle.emitter.specs.Emitted.{heldBy, noPool}
-use Rattle.declarations.proofs.Stating.{next-moved}
+use Rattle.emitter.specs.Emitted.{literalsIn, noPool}
+use Rattle.declarations.proofs.AllocationLaws.{next-closed}
 use borrow.Author.Needs.{needs}
 use Rattle.declarations.proofs.sectors.close.Statement.{statement}
 use Rattle.declarations.proofs.sectors.close.Tie as tie
@@ -30,7 +29,9 @@ same-length c = search needs
 returns : tie.Need-returns
 unfolding noPool
 returns c =
-    next-moved _ _ _ _ _ (c .before .before .before .before .before .before .before .before .before .before .pre .0) (c .before .before .before .before .before .before .before .before .before .before .pre .1) (c .before .with-end .ensures) refl (ap heldBy (c .empty-pool .ensures)) (c .before .before .before .before .before .store-pool .ensures)
+    let at-store-pool = c .before .before .before .before .before in
+    let entry = at-store-pool .before .before .before .before .before in
+    next-closed _ _ _ _ _ (entry .pre .0) (entry .pre .1) (c .before .with-end .ensures) refl (ap literalsIn (c .empty-pool .ensures)) (at-store-pool .store-pool .ensures)
 
 pub close-spec : {M : Type 1} → statement M
 close-spec =

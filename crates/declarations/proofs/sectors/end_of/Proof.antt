@@ -1,4 +1,3 @@
--- `sectors::end_of` meets its contract. Assumes nothing.
 use mathlib.Core.Path.{refl}
 use borrow.Author.Needs.{needs}
 use Rattle.declarations.proofs.sectors.end_of.Statement.{statement}

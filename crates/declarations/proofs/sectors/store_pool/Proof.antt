@@ -1,12 +1,12 @@
--- `sectors::store_pool` meets its contract. The invariant: the first `i` words are stored. Assumes nothing.
+-- The invariant: the first `i` words are stored.
 use mathlib.Core.Path.{_≡_, refl, ap, _∙_}
 use Prim.Native.Nat.{_≤_, _-_}
 use lib.ListN.{length, take}
 use borrow.Author.Needs.{needs}
-use Rattle.emitter.specs.Programs.{stored}
+use Rattle.layout.specs.Emission.{stored}
 use native.Mathlib.Omega.{arith}
-use Rattle.declarations.proofs.Stating.{stored-next}
-use Rattle.emitter.proofs.Pools.{counted}
+use Rattle.declarations.proofs.AllocationLaws.{stored-next}
+use Rattle.emitter.proofs.EmittedPools.{counted}
 use Rattle.declarations.proofs.sectors.store_pool.Statement.{statement}
 use Rattle.declarations.proofs.sectors.store_pool.Tie as tie
 
@@ -43,19 +43,22 @@ loop-less c = search needs
 
 loop-again : tie.Need-loop-again Inv-loop μ-loop
 loop-again c =
+    let entry = c .before .before .before .before .before .before .before .before .before in
     let l = c .before .before .before .before .before .loop .inv in
-    let long : length (c .before .before .before .before .before .before .before .before .before .args .pool .words) ≡ 512 = search needs in
+    let long : length (entry .args .pool .words) ≡ 512 = search needs in
     let few = c .before .before .before .before .before .before .held-count .ensures .1 in
-    (omega arith, c .before .before .store .kept .0 ∙ l .1, stored-next _ _ (c .before .before .before .before .before .before .before .before .before .args .pool .words) (c .before .before .before .before .before .loop .i) (omega arith) (l .2) (c .before .before .store .ensures))
+    (omega arith, c .before .before .store .kept .0 ∙ l .1, stored-next _ _ (entry .args .pool .words) (c .before .before .before .before .before .loop .i) (omega arith) (l .2) (c .before .before .store .ensures))
 
 same-length : tie.Need-same-length Inv-loop μ-loop
 same-length c = c .before .loop .inv .1
 
 returns : tie.Need-returns Inv-loop μ-loop
 returns c =
+    let at-held-count = c .before .before in
+    let entry = at-held-count .before .before .before in
     let l = c .before .loop .inv in
-    let e : c .before .loop .i ≡ c .before .before .held-count .result = omega arith in
-    l .2 ∙ ap (λ k. stored (c .before .before .before .before .before .args .image .now) (c .before .before .before .before .before .args .at) (take k (c .before .before .before .before .before .args .pool .words))) (e ∙ c .before .before .held-count .ensures .0) ∙ ap (stored (c .before .before .before .before .before .args .image .now) (c .before .before .before .before .before .args .at)) (counted (c .before .before .before .before .before .args .pool .count) (c .before .before .before .before .before .args .pool .words))
+    let e : c .before .loop .i ≡ at-held-count .held-count .result = omega arith in
+    l .2 ∙ ap (λ k. stored (entry .args .image .now) (entry .args .at) (take k (entry .args .pool .words))) (e ∙ at-held-count .held-count .ensures .0) ∙ ap (stored (entry .args .image .now) (entry .args .at)) (counted (entry .args .pool .count) (entry .args .pool .words))
 
 pub store-pool-spec : {M : Type 1} → statement M
 store-pool-spec =

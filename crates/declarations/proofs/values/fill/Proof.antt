@@ -1,11 +1,11 @@
--- `values::fill` meets its contract. The invariant: `i` zeros are stored. Assumes nothing.
+-- The invariant: `i` zeros are stored.
 use mathlib.Core.Path.{_≡_, refl, ap, _∙_}
 use Prim.Native.Nat.{_≤_, _-_}
 use lib.ListN.{length, replicate}
 use borrow.Author.Needs.{needs}
-use Rattle.emitter.specs.Programs.{stored}
+use Rattle.layout.specs.Emission.{stored}
 use native.Mathlib.Omega.{arith}
-use Rattle.declarations.proofs.Stating.{stored-zero}
+use Rattle.declarations.proofs.AllocationLaws.{stored-zero}
 use Rattle.declarations.proofs.values.fill.Statement.{statement}
 use Rattle.declarations.proofs.values.fill.Tie as tie
 
@@ -33,17 +33,20 @@ loop-less c = search needs
 
 loop-again : tie.Need-loop-again Inv-loop μ-loop
 loop-again c =
-    let l = c .before .before .before .before .before .loop .inv in
-    (omega arith, c .before .before .store .kept .0 ∙ l .1, stored-zero _ _ (c .before .before .before .before .before .loop .i) (l .2) (c .before .before .store .ensures))
+    let at-store = c .before .before in
+    let at-loop = at-store .before .before .before in
+    let l = at-loop .loop .inv in
+    (omega arith, at-store .store .kept .0 ∙ l .1, stored-zero _ _ (at-loop .loop .i) (l .2) (at-store .store .ensures))
 
 same-length : tie.Need-same-length Inv-loop μ-loop
 same-length c = c .before .loop .inv .1
 
 returns : tie.Need-returns Inv-loop μ-loop
 returns c =
+    let entry = c .before .before .before in
     let l = c .before .loop .inv in
-    let e : c .before .loop .i ≡ c .before .before .before .args .count = omega arith in
-    l .2 ∙ ap (λ k. stored (c .before .before .before .args .image .now) (c .before .before .before .args .at) (replicate k 0)) e
+    let e : c .before .loop .i ≡ entry .args .count = omega arith in
+    l .2 ∙ ap (λ k. stored (entry .args .image .now) (entry .args .at) (replicate k 0)) e
 
 pub fill-spec : {M : Type 1} → statement M
 fill-spec =

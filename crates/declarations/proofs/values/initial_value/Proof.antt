@@ -1,9 +1,8 @@
--- `values::initial_value` meets its contract. Assumes nothing.
 use mathlib.Core.Path.{sym, ap, _∙_, refl}
-use Rattle.cells.specs.Reads.Reads.{read, fails}
-use Rattle.syntax.specs.Parse.{failAt}
-use Rattle.cells.proofs.Laws.{got-read, got-failed, got-with}
-use Rattle.declarations.proofs.Arraying.{value-failed, value-many, value-got}
+use Rattle.parser.specs.Reads.Reads.{read, fails}
+use Rattle.grammar.specs.Parse.{failAt}
+use Rattle.parser.proofs.Answers.{got-read, got-failed, got-with}
+use Rattle.declarations.proofs.ArrayLaws.{value-failed, value-many, value-got}
 use borrow.Author.Needs.{needs}
 use Rattle.declarations.proofs.values.initial_value.Statement.{statement}
 use Rattle.declarations.proofs.values.initial_value.Tie as tie

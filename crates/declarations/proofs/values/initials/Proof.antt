@@ -1,10 +1,9 @@
--- `values::initials` meets its contract. Assumes nothing.
 use mathlib.Core.Path.{refl, _∙_}
 use native.Mathlib.Omega.{arith}
-use Rattle.cells.specs.Reads.Reads.{read, fails}
-use Rattle.cells.proofs.Laws.{then-got, then-failed}
-use Rattle.cells.proofs.Reading.{came, failed-as, ended-by}
-use Rattle.declarations.proofs.Arraying.{initials-none, initials-on, none-stored, padded-stored}
+use Rattle.parser.specs.Reads.Reads.{read, fails}
+use Rattle.parser.proofs.Answers.{then-got, then-failed}
+use Rattle.parser.proofs.ReadLaws.{came, failed-as, ended-by}
+use Rattle.declarations.proofs.ArrayLaws.{initials-none, initials-on, none-stored, padded-stored}
 use borrow.Author.Needs.{needs}
 use Rattle.declarations.proofs.values.initials.Statement.{statement}
 use Rattle.declarations.proofs.values.initials.Tie as tie
@@ -34,15 +33,21 @@ same-length-2 : tie.Need-same-length-2
 same-length-2 c = search needs
 
 returns-2 : tie.Need-returns-2
-returns-2 c = fails (initials-on _ _ _ _ (c .before .before .before .before .before .before .before .before .token-at .ensures) (c .before .before .before .before .before .before .if1 .left) ∙ then-failed _ (failed-as (c .before .before .before .before .values .ensures) (c .enum-told .given .1))) (c .enum-told .given .1) tt
+returns-2 c =
+    let at-values = c .before .before .before .before in
+    let at-if1 = at-values .before .before in
+    let at-token-at = at-if1 .before .before in
+    fails (initials-on _ _ _ _ (at-token-at .token-at .ensures) (at-if1 .if1 .left) ∙ then-failed _ (failed-as (at-values .values .ensures) (c .enum-told .given .1))) (c .enum-told .given .1) tt
 
 cast-fill : tie.Need-cast-fill
 cast-fill c = search needs
 
 add-fill : tie.Need-add-fill
 add-fill c =
-    let r = came (c .before .before .before .before .before .before .values .ensures) (c .before .before .part .given .1) in
-    let h = c .before .before .before .before .before .before .before .before .before .before .before .before .before .before .pre in
+    let at-part = c .before .before in
+    let at-values = at-part .before .before .before .before in
+    let r = came (at-values .values .ensures) (at-part .part .given .1) in
+    let h = at-values .before .before .before .before .before .before .before .before .pre in
     omega (arith, h, r .holds .few)
 
 sub-fill : tie.Need-sub-fill
@@ -55,20 +60,30 @@ cast-fill-2 c = search needs
 
 fill-requires-2 : tie.Need-fill-requires-2
 fill-requires-2 c κs =
-    let r = came (c .before .before .before .before .before .before .values .ensures) (c .before .before .part .given .1) in
-    let h = c .before .before .before .before .before .before .before .before .before .before .before .before .before .before .pre in
+    let at-part = c .before .before in
+    let at-values = at-part .before .before .before .before in
+    let r = came (at-values .values .ensures) (at-part .part .given .1) in
+    let h = at-values .before .before .before .before .before .before .before .before .pre in
     omega (arith, h, r .holds .few)
 
 expect-requires : tie.Need-expect-requires
 expect-requires c κs = search needs
 
 same-length-3 : tie.Need-same-length-3
-same-length-3 c = c .before .before .before .fill2 .kept .0 ∙ c .before .before .before .before .before .before .before .before .before .before .values .kept .1 .1 .0
+same-length-3 c =
+    let at-fill2 = c .before .before .before in
+    let at-values = at-fill2 .before .before .before .before .before .before .before in
+    at-fill2 .fill2 .kept .0 ∙ at-values .values .kept .1 .1 .0
 
 returns-3 : tie.Need-returns-3
 returns-3 c =
-    let r = came (c .before .before .before .before .before .before .before .before .before .before .values .ensures) (c .before .before .before .before .before .before .part .given .1) in
-    ended-by _ _ (initials-on _ _ _ _ (c .before .before .before .before .before .before .before .before .before .before .before .before .before .before .token-at .ensures) (c .before .before .before .before .before .before .before .before .before .before .before .before .if1 .left) ∙ then-got _ (r .is)) (c .expect .ensures) (padded-stored _ _ _ _ _ (r .holds .laid) (r .holds .counted) (r .holds .few) (c .before .before .before .fill2 .ensures)) tt
+    let at-fill2 = c .before .before .before in
+    let at-part = at-fill2 .before .before .before in
+    let at-values = at-part .before .before .before .before in
+    let at-if1 = at-values .before .before in
+    let at-token-at = at-if1 .before .before in
+    let r = came (at-values .values .ensures) (at-part .part .given .1) in
+    ended-by _ _ (initials-on _ _ _ _ (at-token-at .token-at .ensures) (at-if1 .if1 .left) ∙ then-got _ (r .is)) (c .expect .ensures) (padded-stored _ _ _ _ _ (r .holds .laid) (r .holds .counted) (r .holds .few) (at-fill2 .fill2 .ensures)) tt
 
 pub initials-spec : {M : Type 1} → statement M
 initials-spec =

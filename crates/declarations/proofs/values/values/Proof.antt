@@ -1,23 +1,23 @@
--- `values::values` meets its contract. The invariant: from `from` on, with the values that are done, the definition reads what it reads from `at` on. Assumes nothing.
+-- The invariant: from `from` on, with the values that are done, the definition reads what it reads from `at` on.
 use mathlib.Core.Path.{_≡_, refl, _∙_}
 use mathlib.Core.List.{[]}
 use lib.ListN.{length}
 use native.Mathlib.Omega.{arith}
-use Rattle.declarations.proofs.Reading.{gives-read}
+use Rattle.declarations.proofs.ParseLaws.{gives-read}
 use Rattle.source.specs.Kinds
-use Rattle.syntax.specs.Parse.{parted}
-use Rattle.syntax.specs.Declarations.{parseInitial}
-use Rattle.symbols.specs.Table.{heldBy}
-use Rattle.declarations.specs.Arrays.{Filled}
-use Rattle.cells.proofs.Reading.{Listing, list-first, list-failed, list-zero, list-last, list-next, failed-as}
-use Rattle.declarations.proofs.Arraying.{value-room, none-filled, value-next, value-fails}
+use Rattle.grammar.specs.Parse.{separated}
+use Rattle.grammar.specs.Declarations.{parseInitial}
+use Rattle.symbols.specs.Table.{liveNames}
+use Rattle.declarations.specs.Values.{Filled}
+use Rattle.parser.proofs.ReadLaws.{Listing, list-first, list-failed, list-zero, list-last, list-next, failed-as}
+use Rattle.declarations.proofs.ArrayLaws.{value-room, none-filled, value-next, value-fails}
 use borrow.Author.Needs.{needs}
 use Rattle.declarations.proofs.values.values.Statement.{statement}
 use Rattle.declarations.proofs.values.values.Tie as tie
 
 abbrev Inv-loop : tie.InvT-loop
 Inv-loop source table image₀ names first size at count₀ from₀ left₀ image count from left =
-    Listing source Kinds.comma (parseInitial source (heldBy names table) size) (parted source Kinds.comma (parseInitial source (heldBy names table) size []) (parseInitial source (heldBy names table) size) at) (Filled first size image₀ count image) from left
+    Listing source Kinds.comma (parseInitial source (liveNames names table) size) (separated source Kinds.comma (parseInitial source (liveNames names table) size []) (parseInitial source (liveNames names table) size) at) (Filled first size image₀ count image) from left
     × (length image ≡ length image₀)
 
 abbrev μ-loop : tie.MeasureT-loop
@@ -45,34 +45,56 @@ cast-store : tie.Need-cast-store Inv-loop μ-loop
 cast-store c = search needs
 
 add-store : tie.Need-add-store Inv-loop μ-loop
-add-store c = let h = c .before .before .before .before .before .before .before .before .before .pre in let k = value-room _ _ _ _ _ (gives-read (c .before .before .before .before .initial-value .ensures) (c .before .before .part .given .1)) in omega (arith, h, k)
+add-store c =
+    let at-part = c .before .before in
+    let at-initial-value = at-part .before .before in
+    let h = at-initial-value .before .before .before .before .before .pre in
+    let k = value-room _ _ _ _ _ (gives-read (at-initial-value .initial-value .ensures) (at-part .part .given .1)) in
+    omega (arith, h, k)
 
 store-requires : tie.Need-store-requires Inv-loop μ-loop
 store-requires c κs = search needs
 
 add-count : tie.Need-add-count Inv-loop μ-loop
-add-count c = let k = value-room _ _ _ _ _ (gives-read (c .before .before .before .before .before .before .before .initial-value .ensures) (c .before .before .before .before .before .part .given .1)) in omega (arith, k)
+add-count c =
+    let at-part = c .before .before .before .before .before in
+    let at-initial-value = at-part .before .before in
+    let k = value-room _ _ _ _ _ (gives-read (at-initial-value .initial-value .ensures) (at-part .part .given .1)) in
+    omega (arith, k)
 
 token-at-requires : tie.Need-token-at-requires Inv-loop μ-loop
 token-at-requires c κs = search needs
 
 same-length-2 : tie.Need-same-length-2 Inv-loop μ-loop
-same-length-2 c = c .before .before .before .before .store .kept .0 ∙ c .before .before .before .before .before .before .before .before .before .before .loop .inv .1
+same-length-2 c =
+    let at-store = c .before .before .before .before in
+    let at-loop = at-store .before .before .before .before .before .before in
+    at-store .store .kept .0 ∙ at-loop .loop .inv .1
 
 returns-2 : tie.Need-returns-2 Inv-loop μ-loop
 returns-2 c =
-    let l = c .before .before .before .before .before .before .before .before .before .before .loop .inv in
-    let one = value-next _ _ _ (l .0 .holds) (gives-read (c .before .before .before .before .before .before .before .before .before .initial-value .ensures) (c .before .before .before .before .before .before .before .part .given .1)) refl (c .before .before .before .before .store .ensures) in
+    let at-store = c .before .before .before .before in
+    let at-part = at-store .before .before .before in
+    let at-initial-value = at-part .before .before in
+    let l = at-initial-value .before .loop .inv in
+    let one = value-next _ _ _ (l .0 .holds) (gives-read (at-initial-value .initial-value .ensures) (at-part .part .given .1)) refl (at-store .store .ensures) in
     list-zero (l .0) one refl (c .if1 .taken)
 
 same-length-3 : tie.Need-same-length-3 Inv-loop μ-loop
-same-length-3 c = c .before .before .before .before .before .before .store .kept .0 ∙ c .before .before .before .before .before .before .before .before .before .before .before .before .loop .inv .1
+same-length-3 c =
+    let at-store = c .before .before .before .before .before .before in
+    let at-loop = at-store .before .before .before .before .before .before in
+    at-store .store .kept .0 ∙ at-loop .loop .inv .1
 
 returns-3 : tie.Need-returns-3 Inv-loop μ-loop
 returns-3 c =
-    let l = c .before .before .before .before .before .before .before .before .before .before .before .before .loop .inv in
-    let one = value-next _ _ _ (l .0 .holds) (gives-read (c .before .before .before .before .before .before .before .before .before .before .before .initial-value .ensures) (c .before .before .before .before .before .before .before .before .before .part .given .1)) refl (c .before .before .before .before .before .before .store .ensures) in
-    list-last (l .0) one refl (c .before .before .before .token-at .ensures) (c .if2 .taken)
+    let at-token-at = c .before .before .before in
+    let at-store = at-token-at .before .before .before in
+    let at-part = at-store .before .before .before in
+    let at-initial-value = at-part .before .before in
+    let l = at-initial-value .before .loop .inv in
+    let one = value-next _ _ _ (l .0 .holds) (gives-read (at-initial-value .initial-value .ensures) (at-part .part .given .1)) refl (at-store .store .ensures) in
+    list-last (l .0) one refl (at-token-at .token-at .ensures) (c .if2 .taken)
 
 sub-left : tie.Need-sub-left Inv-loop μ-loop
 sub-left c = search needs
@@ -82,9 +104,14 @@ loop-less c = search needs
 
 loop-again : tie.Need-loop-again Inv-loop μ-loop
 loop-again c =
-    let l = c .before .before .before .before .before .before .before .before .before .before .before .before .loop .inv in
-    let one = value-next _ _ _ (l .0 .holds) (gives-read (c .before .before .before .before .before .before .before .before .before .before .before .initial-value .ensures) (c .before .before .before .before .before .before .before .before .before .part .given .1)) (c .before .before .before .before .before .before .before .before .before .part .given .1) (c .before .before .before .before .before .before .store .ensures) in
-    (list-next (l .0) one (c .before .before .before .before .before .before .before .before .before .part .given .1) (c .before .before .before .token-at .ensures) (c .before .before .if1 .left) (c .if2 .left), c .before .before .before .before .before .before .store .kept .0 ∙ l .1)
+    let at-if1 = c .before .before in
+    let at-token-at = at-if1 .before in
+    let at-store = at-token-at .before .before .before in
+    let at-part = at-store .before .before .before in
+    let at-initial-value = at-part .before .before in
+    let l = at-initial-value .before .loop .inv in
+    let one = value-next _ _ _ (l .0 .holds) (gives-read (at-initial-value .initial-value .ensures) (at-part .part .given .1)) (at-part .part .given .1) (at-store .store .ensures) in
+    (list-next (l .0) one (at-part .part .given .1) (at-token-at .token-at .ensures) (at-if1 .if1 .left) (c .if2 .left), at-store .store .kept .0 ∙ l .1)
 
 pub values-spec : {M : Type 1} → statement M
 values-spec =

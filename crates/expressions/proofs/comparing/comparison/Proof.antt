@@ -1,6 +1,5 @@
--- `comparing::comparison` meets its contract. Assumes nothing.
 use mathlib.Core.Path.{_∙_}
-use Rattle.expressions.proofs.Comparisons.{none-left, relation-compared, test-read, no-comparison}
+use Rattle.expressions.proofs.ComparingLaws.{none-left, relation-compared, test-read, no-comparison}
 use borrow.Author.Needs.{needs}
 use Rattle.expressions.proofs.comparing.comparison.Statement.{statement}
 use Rattle.expressions.proofs.comparing.comparison.Tie as tie
@@ -36,7 +35,14 @@ same-length-2 : tie.Need-same-length-2
 same-length-2 c = search needs
 
 returns-2 : tie.Need-returns-2
-returns-2 c = test-read _ _ _ _ (c .before .before .before .before .before .before .before .before .before .token-at .ensures) _ (none-left _ (c .before .before .before .before .before .before .before .if1 .left) ∙ c .before .before .before .before .before .before .before .before .relation .ensures) (c .before .before .before .before .before .before .test .ensures) (c .before .before .before .before .before .if2 .taken) (c .before .before .before .emit-test .ensures)
+returns-2 c =
+    let at-emit-test = c .before .before .before in
+    let at-if2 = at-emit-test .before .before in
+    let at-test = at-if2 .before in
+    let at-if1 = at-test .before in
+    let at-relation = at-if1 .before in
+    let at-token-at = at-relation .before in
+    test-read _ _ _ _ (at-token-at .token-at .ensures) _ (none-left _ (at-if1 .if1 .left) ∙ at-relation .relation .ensures) (at-test .test .ensures) (at-if2 .if2 .taken) (at-emit-test .emit-test .ensures)
 
 fail-at-requires : tie.Need-fail-at-requires
 fail-at-requires c κs = search needs

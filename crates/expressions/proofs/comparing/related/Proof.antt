@@ -1,8 +1,7 @@
--- `comparing::related` meets its contract. Assumes nothing.
 use mathlib.Core.Path.{sym}
-use Rattle.cells.proofs.Laws.{got-with}
-use Rattle.cells.proofs.Reading.{reads-on}
-use Rattle.expressions.proofs.Comparisons.{related-failed, related-read}
+use Rattle.parser.proofs.Answers.{got-with}
+use Rattle.parser.proofs.ReadLaws.{reads-on}
+use Rattle.expressions.proofs.ComparingLaws.{related-failed, related-read}
 use borrow.Author.Needs.{needs}
 use Rattle.expressions.proofs.comparing.related.Statement.{statement}
 use Rattle.expressions.proofs.comparing.related.Tie as tie
@@ -23,7 +22,10 @@ same-length : tie.Need-same-length
 same-length c = search needs
 
 returns : tie.Need-returns
-returns c = related-failed (reads-on (sym (got-with _ (c .before .before .before .before .before .before .before .lone-cell-at .ensures))) (c .before .before .before .before .before .emit-read .ensures)) (c .enum-told2 .given .1)
+returns c =
+    let at-emit-read = c .before .before .before .before .before in
+    let at-lone-cell-at = at-emit-read .before .before in
+    related-failed (reads-on (sym (got-with _ (at-lone-cell-at .lone-cell-at .ensures))) (at-emit-read .emit-read .ensures)) (c .enum-told2 .given .1)
 
 emit-relation-requires : tie.Need-emit-relation-requires
 emit-relation-requires c κs = search needs
@@ -32,7 +34,12 @@ same-length-2 : tie.Need-same-length-2
 same-length-2 c = search needs
 
 returns-2 : tie.Need-returns-2
-returns-2 c = related-read (reads-on (sym (got-with _ (c .before .before .before .before .before .before .before .before .before .before .before .before .lone-cell-at .ensures))) (c .before .before .before .before .before .before .before .before .before .before .emit-read .ensures)) (c .before .before .before .before .before .enum-told .given .1) (c .before .before .before .emit-relation .ensures)
+returns-2 c =
+    let at-emit-relation = c .before .before .before in
+    let at-enum-told = at-emit-relation .before .before in
+    let at-emit-read = at-enum-told .before .before .before .before .before in
+    let at-lone-cell-at = at-emit-read .before .before in
+    related-read (reads-on (sym (got-with _ (at-lone-cell-at .lone-cell-at .ensures))) (at-emit-read .emit-read .ensures)) (at-enum-told .enum-told .given .1) (at-emit-relation .emit-relation .ensures)
 
 pub related-spec : {M : Type 1} → statement M
 related-spec =

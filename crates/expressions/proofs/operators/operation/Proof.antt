@@ -1,9 +1,8 @@
--- `operators::operation` meets its contract. Assumes nothing.
 use mathlib.Core.Path.{sym, _∙_}
-use Rattle.cells.proofs.Laws.{got-with}
-use Rattle.cells.proofs.Reading.{reads-on}
-use Rattle.expressions.proofs.Comparisons.{none-left}
-use Rattle.expressions.proofs.Turns.{binary-turn, shift-turn, no-turn}
+use Rattle.parser.proofs.Answers.{got-with}
+use Rattle.parser.proofs.ReadLaws.{reads-on}
+use Rattle.expressions.proofs.ComparingLaws.{none-left}
+use Rattle.expressions.proofs.OperatorLaws.{binary-turn, shift-turn, no-turn}
 use borrow.Author.Needs.{needs}
 use Rattle.expressions.proofs.operators.operation.Statement.{statement}
 use Rattle.expressions.proofs.operators.operation.Tie as tie
@@ -39,7 +38,12 @@ same-length-2 : tie.Need-same-length-2
 same-length-2 c = search needs
 
 returns-2 : tie.Need-returns-2
-returns-2 c = shift-turn _ _ _ _ (none-left _ (c .before .before .before .before .before .before .if1 .left) ∙ c .before .before .before .before .before .before .before .operator .ensures) (c .before .before .before .before .before .shift-word .ensures) (c .before .before .before .before .if2 .taken) (c .before .before .shifted .ensures)
+returns-2 c =
+    let at-if2 = c .before .before .before .before in
+    let at-shift-word = at-if2 .before in
+    let at-if1 = at-shift-word .before in
+    let at-operator = at-if1 .before in
+    shift-turn _ _ _ _ (none-left _ (at-if1 .if1 .left) ∙ at-operator .operator .ensures) (at-shift-word .shift-word .ensures) (at-if2 .if2 .taken) (c .before .before .shifted .ensures)
 
 returns-3 : tie.Need-returns-3
 returns-3 c = no-turn _ _ _ (none-left _ (c .before .before .if1 .left) ∙ c .before .before .before .operator .ensures) (none-left _ (c .if2 .left) ∙ c .before .shift-word .ensures)

@@ -1,8 +1,7 @@
--- `operators::shifted` meets its contract. Assumes nothing.
 use mathlib.Core.Path.{refl}
-use Rattle.cells.specs.Reads.Reads.{read, fails}
+use Rattle.parser.specs.Reads.Reads.{read, fails}
 use Rattle.emitter.proofs.Lays.{kept-here}
-use Rattle.cells.proofs.Laws.{got-read, got-failed, got-with}
+use Rattle.parser.proofs.Answers.{got-read, got-failed, got-with}
 use Rattle.expressions.proofs.Leaves.{shift}
 use borrow.Author.Needs.{needs}
 use Rattle.expressions.proofs.operators.shifted.Statement.{statement}
@@ -27,7 +26,10 @@ same-length : tie.Need-same-length
 same-length c = search needs
 
 returns-2 : tie.Need-returns-2
-returns-2 c = read (got-read (got-with _ (c .before .before .before .before .before .before .before .amount-at .ensures)) (c .before .before .before .before .before .part .given .1)) refl (shift _ _ _ (c .before .before .emit-shift .ensures .emitted))
+returns-2 c =
+    let at-part = c .before .before .before .before .before in
+    let at-amount-at = at-part .before .before in
+    read (got-read (got-with _ (at-amount-at .amount-at .ensures)) (at-part .part .given .1)) refl (shift _ _ _ (c .before .before .emit-shift .ensures .emitted))
 
 pub shifted-spec : {M : Type 1} → statement M
 shifted-spec =

@@ -1,6 +1,5 @@
--- `relation::emit_at_most` meets its contract. Assumes nothing.
 use Rattle.expressions.proofs.Leaves.{hole-later}
-use Rattle.expressions.proofs.Relations.{at-most}
+use Rattle.expressions.proofs.RelationLaws.{at-most}
 use borrow.Author.Needs.{needs}
 use Rattle.expressions.proofs.relation.emit_at_most.Statement.{statement}
 use Rattle.expressions.proofs.relation.emit_at_most.Tie as tie

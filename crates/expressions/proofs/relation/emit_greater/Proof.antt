@@ -1,6 +1,5 @@
--- `relation::emit_greater` meets its contract. Assumes nothing.
 use Rattle.expressions.proofs.Leaves.{hole-later}
-use Rattle.expressions.proofs.Relations.{greater}
+use Rattle.expressions.proofs.RelationLaws.{greater}
 use borrow.Author.Needs.{needs}
 use Rattle.expressions.proofs.relation.emit_greater.Statement.{statement}
 use Rattle.expressions.proofs.relation.emit_greater.Tie as tie
@@ -21,7 +20,12 @@ same-length : tie.Need-same-length
 same-length c = search needs
 
 returns : tie.Need-returns
-returns c = greater (hole-later (c .before .before .before .before .before .before .before .before .before .before .before .before .before .before .before .before .emit-hole .ensures)) (c .before .before .before .before .before .before .before .before .before .before .before .emit-generic .ensures .emitted) (hole-later (c .before .before .before .before .before .before .before .emit-hole2 .ensures)) (c .before .before .fill-jump .ensures)
+returns c =
+    let at-fill-jump = c .before .before in
+    let at-emit-hole2 = at-fill-jump .before .before .before .before .before in
+    let at-emit-generic = at-emit-hole2 .before .before .before .before in
+    let at-emit-hole = at-emit-generic .before .before .before .before .before in
+    greater (hole-later (at-emit-hole .emit-hole .ensures)) (at-emit-generic .emit-generic .ensures .emitted) (hole-later (at-emit-hole2 .emit-hole2 .ensures)) (at-fill-jump .fill-jump .ensures)
 
 pub emit-greater-spec : {M : Type 1} → statement M
 emit-greater-spec =

@@ -1,4 +1,3 @@
--- `relation::emit_hole` meets its contract. Assumes nothing.
 use mathlib.Core.Path.{refl}
 use borrow.Author.Needs.{needs}
 use Rattle.expressions.proofs.relation.emit_hole.Statement.{statement}

@@ -1,5 +1,4 @@
--- `relation::emit_relation` meets its contract. Assumes nothing.
-use Rattle.expressions.proofs.Relations.{same-kind, not-equal, less, equal, last-kind, at-least}
+use Rattle.expressions.proofs.RelationLaws.{same-kind, not-equal, less, equal, last-kind, at-least}
 use borrow.Author.Needs.{needs}
 use Rattle.expressions.proofs.relation.emit_relation.Statement.{statement}
 use Rattle.expressions.proofs.relation.emit_relation.Tie as tie
@@ -50,7 +49,10 @@ same-length-5 : tie.Need-same-length-5
 same-length-5 c = search needs
 
 returns-5 : tie.Need-returns-5
-returns-5 c = same-kind (c .before .before .before .before .before .before .before .before .if5 .taken) (equal (c .before .before .before .before .before .before .emit-generic .ensures .emitted) (c .before .before .emit-test3 .ensures))
+returns-5 c =
+    let at-emit-generic = c .before .before .before .before .before .before in
+    let at-if5 = at-emit-generic .before .before in
+    same-kind (at-if5 .if5 .taken) (equal (at-emit-generic .emit-generic .ensures .emitted) (c .before .before .emit-test3 .ensures))
 
 emit-generic-requires-2 : tie.Need-emit-generic-requires-2
 emit-generic-requires-2 c κs = search needs
@@ -62,7 +64,15 @@ same-length-6 : tie.Need-same-length-6
 same-length-6 c = search needs
 
 returns-6 : tie.Need-returns-6
-returns-6 c = last-kind (c .before .before .before .before .before .before .before .before .if5 .left) (c .before .before .before .before .before .before .before .before .before .before .if3 .left) (c .before .before .before .before .before .before .before .before .before .if4 .left) (c .before .before .before .before .before .before .before .before .before .before .before .before .if1 .left) (c .before .before .before .before .before .before .before .before .before .before .before .if2 .left) (at-least (c .before .before .before .before .before .before .emit-generic2 .ensures .emitted) (c .before .before .emit-test4 .ensures))
+returns-6 c =
+    let at-emit-test4 = c .before .before in
+    let at-emit-generic2 = at-emit-test4 .before .before .before .before in
+    let at-if5 = at-emit-generic2 .before .before in
+    let at-if4 = at-if5 .before in
+    let at-if3 = at-if4 .before in
+    let at-if2 = at-if3 .before in
+    let at-if1 = at-if2 .before in
+    last-kind (at-if5 .if5 .left) (at-if3 .if3 .left) (at-if4 .if4 .left) (at-if1 .if1 .left) (at-if2 .if2 .left) (at-least (at-emit-generic2 .emit-generic2 .ensures .emitted) (at-emit-test4 .emit-test4 .ensures))
 
 pub emit-relation-spec : {M : Type 1} → statement M
 emit-relation-spec =

@@ -1,7 +1,6 @@
--- `unaries::emit_unaries` meets its contract. Assumes nothing.
 use borrow.Author.Needs.{needs}
 use native.Mathlib.Omega.{arith}
-use Rattle.expressions.proofs.UnaryWords.{past-end, laid}
+use Rattle.expressions.proofs.UnaryLaws.{past-end, laid}
 use Rattle.expressions.proofs.unaries.emit_unaries.Statement.{statement}
 use Rattle.expressions.proofs.unaries.emit_unaries.Tie as tie
 

@@ -1,14 +1,14 @@
--- `unaries::place_unaries` meets its contract. Assumes nothing.
+-- The invariant: the words still to come, placed below `place`, make up the image that is promised.
 use borrow.Author.Needs.{needs}
 use mathlib.Core.Path.{_≡_, refl, _∙_}
 use Prim.Native.Nat.{_-_, _≤_}
 use native.Mathlib.Omega.{arith}
 use lib.ListN.{length}
 use lib.Seq.{sets, length-sets}
-use Rattle.syntax.specs.Emission.{unariesWords}
+use Rattle.layout.specs.Words.{unariesWords}
 use Rattle.expressions.specs.Chains.{unariesOf}
 use Rattle.expressions.specs.Unaries.{values}
-use Rattle.expressions.proofs.UnaryWords.{toCome, none-stored, runs-out, stops, turns, room, still-room, places}
+use Rattle.expressions.proofs.UnaryLaws.{toCome, none-stored, runs-out, stops, turns, room, still-room, places}
 use Rattle.expressions.proofs.unaries.place_unaries.Statement.{statement}
 use Rattle.expressions.proofs.unaries.place_unaries.Tie as tie
 
@@ -57,7 +57,15 @@ loop-less : tie.Need-loop-less Inv-loop μ-loop
 loop-less c = search needs
 
 loop-again : tie.Need-loop-again Inv-loop μ-loop
-loop-again c = (simp (c .before .before .place-unary .ensures, length-sets) (c .before .before .before .before .before .before .before .before .before .loop .inv .0), omega arith, still-room (turns _ _ _ (c .before .before .before .before .before .before .before .token-at .ensures) (c .before .before .before .before .before .before .unary .ensures) (c .before .before .before .before .before .before .before .before .loop-test .taken) (c .before .before .before .before .before .if1 .left)) (c .before .before .before .before .width .ensures) (c .before .before .before .before .before .before .before .before .before .loop .inv .2), places (turns _ _ _ (c .before .before .before .before .before .before .before .token-at .ensures) (c .before .before .before .before .before .before .unary .ensures) (c .before .before .before .before .before .before .before .before .loop-test .taken) (c .before .before .before .before .before .if1 .left)) (c .before .before .before .before .width .ensures) _ (c .before .before .before .before .before .before .before .before .before .loop .inv .2) (c .before .before .place-unary .ensures) ∙ c .before .before .before .before .before .before .before .before .before .loop .inv .3)
+loop-again c =
+    let at-place-unary = c .before .before in
+    let at-width = at-place-unary .before .before in
+    let at-if1 = at-width .before in
+    let at-unary = at-if1 .before in
+    let at-token-at = at-unary .before in
+    let at-loop-test = at-token-at .before in
+    let at-loop = at-loop-test .before in
+    (simp (at-place-unary .place-unary .ensures, length-sets) (at-loop .loop .inv .0), omega arith, still-room (turns _ _ _ (at-token-at .token-at .ensures) (at-unary .unary .ensures) (at-loop-test .loop-test .taken) (at-if1 .if1 .left)) (at-width .width .ensures) (at-loop .loop .inv .2), places (turns _ _ _ (at-token-at .token-at .ensures) (at-unary .unary .ensures) (at-loop-test .loop-test .taken) (at-if1 .if1 .left)) (at-width .width .ensures) _ (at-loop .loop .inv .2) (at-place-unary .place-unary .ensures) ∙ at-loop .loop .inv .3)
 
 same-length-2 : tie.Need-same-length-2 Inv-loop μ-loop
 same-length-2 c = c .before .loop .inv .0

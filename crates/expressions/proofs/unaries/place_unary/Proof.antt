@@ -1,4 +1,3 @@
--- `unaries::place_unary` meets its contract. Assumes nothing.
 use borrow.Author.Tests.{ne-eqb}
 use native.Mathlib.Numerals.{add-one}
 use Rattle.expressions.specs.Unaries.{unaryValues}
@@ -26,7 +25,13 @@ same-length c = search needs
 
 returns : tie.Need-returns
 unfolding unaryValues
-returns c = rw (c .before .before .store2 .ensures, c .before .before .before .before .before .before .store .ensures, c .before .before .before .before .before .before .before .generic-word2 .ensures, c .before .before .before .before .before .before .before .before .before .before .generic-word .ensures, c .before .before .before .before .before .before .before .before .before .if1 .taken, add-one)
+returns c =
+    let at-store2 = c .before .before in
+    let at-store = at-store2 .before .before .before .before in
+    let at-generic-word2 = at-store .before in
+    let at-if1 = at-generic-word2 .before .before in
+    let at-generic-word = at-if1 .before in
+    rw (at-store2 .store2 .ensures, at-store .store .ensures, at-generic-word2 .generic-word2 .ensures, at-generic-word .generic-word .ensures, at-if1 .if1 .taken, add-one)
 
 store-requires-3 : tie.Need-store-requires-3
 store-requires-3 c κs = search needs

@@ -1,22 +1,22 @@
--- `unaries::unaries_end` meets its contract. Assumes nothing.
+-- The invariant: `end` and the words still to come make up the address after all, up to the last.
 use borrow.Author.Needs.{needs}
 use mathlib.Core.Path.{_≡_, refl}
 use Prim.Native.Nat.{_+_, _≤_, min}
 use native.Mathlib.Omega.{arith}
 use lib.ListN.{length}
-use Rattle.syntax.specs.Emission.{unariesWords}
-use Rattle.emitter.specs.Emitted.{lastAddress}
+use Rattle.layout.specs.Words.{unariesWords}
+use Rattle.layout.specs.Emission.{lastAddress}
 use Rattle.expressions.specs.Chains.{unariesOf}
-use Rattle.expressions.proofs.UnaryWords.{toCome, none-counted, runs-out, stops, turns, advances}
+use Rattle.expressions.proofs.UnaryLaws.{toCome, none-counted, runs-out, stops, turns, advances}
 use Rattle.expressions.proofs.unaries.unaries_end.Statement.{statement}
 use Rattle.expressions.proofs.unaries.unaries_end.Tie as tie
 
 abbrev Inv-loop : tie.InvT-loop
-Inv-loop source at code i₀ end₀ k₀ i end k =
-    (end ≤ lastAddress) × (min lastAddress (end + length (toCome source k i)) ≡ min lastAddress (code + length (unariesWords (unariesOf source at))))
+Inv-loop source at start i₀ end₀ k₀ i end k =
+    (end ≤ lastAddress) × (min lastAddress (end + length (toCome source k i)) ≡ min lastAddress (start + length (unariesWords (unariesOf source at))))
 
 abbrev μ-loop : tie.MeasureT-loop
-μ-loop source at code i₀ end₀ k₀ i end k = k
+μ-loop source at start i₀ end₀ k₀ i end k = k
 
 loop-holds : tie.Need-loop-holds Inv-loop μ-loop
 unfolding unariesOf
@@ -32,7 +32,9 @@ unary-requires : tie.Need-unary-requires Inv-loop μ-loop
 unary-requires c κs = search needs
 
 returns : tie.Need-returns Inv-loop μ-loop
-returns c = none-counted _ _ _ _ (stops _ _ _ (c .before .before .token-at .ensures) (c .before .unary .ensures) (c .if1 .taken)) (c .before .before .before .before .loop .inv .0) (c .before .before .before .before .loop .inv .1)
+returns c =
+    let at-loop = c .before .before .before .before in
+    none-counted _ _ _ _ (stops _ _ _ (c .before .before .token-at .ensures) (c .before .unary .ensures) (c .if1 .taken)) (at-loop .loop .inv .0) (at-loop .loop .inv .1)
 
 width-requires : tie.Need-width-requires Inv-loop μ-loop
 width-requires c κs = search needs

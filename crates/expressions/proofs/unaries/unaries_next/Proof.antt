@@ -1,8 +1,8 @@
--- `unaries::unaries_next` meets its contract. Assumes nothing.
+-- The invariant: the words from `i` on, up to `k`, end where all end.
 use borrow.Author.Needs.{needs}
 use mathlib.Core.Path.{_≡_, refl, sym, ap, _∙_}
 use Rattle.expressions.specs.Chains.{unariesBy, unariesNext}
-use Rattle.expressions.proofs.UnaryWords.{runs-out, stops, turns}
+use Rattle.expressions.proofs.UnaryLaws.{runs-out, stops, turns}
 use Rattle.expressions.proofs.unaries.unaries_next.Statement.{statement}
 use Rattle.expressions.proofs.unaries.unaries_next.Tie as tie
 

@@ -1,4 +1,3 @@
--- `unaries::width` meets its contract. Assumes nothing.
 use borrow.Author.Tests.{ne-eqb}
 use Rattle.expressions.specs.Unaries.{widthOf}
 use Rattle.expressions.proofs.unaries.width.Statement.{statement}

@@ -1,4 +1,3 @@
--- `machine::address::base` meets its contract. Assumes nothing.
 use native.Mathlib.Omega.{arith}
 use borrow.Author.Needs.{needs}
 use Rattle.machine.proofs.address.base.Statement.{statement}

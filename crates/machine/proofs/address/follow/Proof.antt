@@ -1,4 +1,4 @@
--- `machine::address::follow` meets its contract. The loop's invariant: the chain from the address reached, with the words that are left, is the whole chain. Assumes nothing.
+-- The loop's invariant: the chain from the address reached, with the words that are left, is the whole chain.
 use Prim.Native.Nat.{_≤_, _<_}
 use mathlib.Core.Path.{_≡_, sym, _∙_}
 use native.Mathlib.Omega.{arith}

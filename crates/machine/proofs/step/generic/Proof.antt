@@ -1,4 +1,3 @@
--- `machine::step::generic` meets its contract. Assumes nothing.
 use borrow.Author.Tests.{ne-eqb}
 use Rattle.machine.specs.Step.{genericDef}
 use borrow.Author.Needs.{needs}

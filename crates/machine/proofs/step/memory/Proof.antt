@@ -1,4 +1,4 @@
--- `machine::step::memory` meets its contract: each arm is the case of `memoryDef` for its code. Assumes nothing.
+-- Each arm is the case of `memoryDef` for its opcode.
 use borrow.Author.Tests.{ne-eqb}
 use native.Mathlib.Omega.{arith}
 use mathlib.Core.Path.{refl}

@@ -1,4 +1,4 @@
--- `machine::step::step` meets its contract: each arm is the case of `perform` for the decoded instruction. Assumes nothing.
+-- Each arm is the case of `perform` for the decoded instruction.
 use native.Mathlib.Omega.{arith}
 use mathlib.Core.Path.{_≡_, refl, sym, ap, subst, _∙_}
 use Prim.Native.Nat.{ℕ, _<_}
@@ -32,18 +32,22 @@ found-below c =
 
 -- a memory-reference instruction's step, from where its address is formed
 memory-step : (c : tie.After-follow) {a : Address} → c .follow .result ≡ a
-    → stepDef (state (c .before .before .before .before .before .before .before .before .before .before .before .args .m) (now (c .before .before .before .before .before .before .before .before .before .before .before .args .image)))
-    ≡ memoryStep (c .before .before .before .before .before .before .i .given .0 .0) (c .before .before .before .before .before .before .before .before .before .before .before .args .m) (now (c .before .before .before .before .before .before .before .before .before .before .before .args .image)) a
+    → let at-i = c .before .before .before .before .before .before in
+    let entry = at-i .before .before .before .before .before in
+    stepDef (state (entry .args .m) (now (entry .args .image))) ≡ memoryStep (at-i .i .given .0 .0) (entry .args .m) (now (entry .args .image)) a
 memory-step c e =
-    let s = c .before .before .before .before .before .before .before .before .before .before .before .args in
-    let i = c .before .before .before .before .before .before .i .given in
+    let at-indexed = c .before .before in
+    let at-base = at-indexed .before in
+    let at-i = at-base .before .before .before in
+    let s = at-i .before .before .before .before .before .args in
+    let i = at-i .i .given in
     let indirect = i .0 .1 .0 in
     let tag = i .0 .1 .1 .0 in
     let x = getD (now (s .image)) 0 0 in
-    step-of (s .m) (now (s .image)) (sym (decoded (c .before .before .before .before .before .before .before .before)) ∙ i .1)
+    step-of (s .m) (now (s .image)) (sym (decoded (at-i .before .before)) ∙ i .1)
     ∙ ap (memoryStep (i .0 .0) (s .m) (now (s .image)))
     (sym (ap (λ (k : ℕ). followOf (now (s .image)) 16 indirect k)
-    (c .before .before .indexed .ensures .0 ∙ ap (λ (k : ℕ). indexedOf k tag x) (c .before .before .before .base .ensures .0)))
+    (at-indexed .indexed .ensures .0 ∙ ap (λ (k : ℕ). indexedOf k tag x) (at-base .base .ensures .0)))
     ∙ sym (c .follow .ensures) ∙ e)
 
 cast-decode : tie.Need-cast-decode
@@ -101,7 +105,10 @@ same-length : tie.Need-same-length
 same-length c = search needs
 
 returns : tie.Need-returns
-returns c = rw (memory-step (c .before .before .before .before .before .before .before) (c .before .before .before .before .before .found .given .1)) (ap Made (c .before .before .memory .ensures .0), c .before .before .memory .ensures .1)
+returns c =
+    let at-memory = c .before .before in
+    let at-found = at-memory .before .before .before in
+    rw (memory-step (at-found .before .before) (at-found .found .given .1)) (ap Made (at-memory .memory .ensures .0), at-memory .memory .ensures .1)
 
 same-length-2 : tie.Need-same-length-2
 same-length-2 c = search needs

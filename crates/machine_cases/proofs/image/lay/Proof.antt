@@ -1,4 +1,4 @@
--- `machine_cases::image::lay` is safe: a store does not change the length. Assumes nothing.
+-- A store does not change the length.
 use native.Mathlib.Omega.{arith}
 use lib.ListN.{length-set}
 use borrow.Author.Needs.{needs}

@@ -1,4 +1,3 @@
--- `machine_cases::kept::same_image` is safe and ends. Assumes nothing.
 use borrow.Author.Needs.{needs}
 use Prim.Native.Nat.{_≤_, _-_}
 use Rattle.machine_cases.proofs.kept.same_image.Statement.{statement}

@@ -1,4 +1,4 @@
--- `machine_vectors::input::parse_words` is safe and ends: the image keeps its length. Assumes nothing.
+-- The image keeps its length.
 use borrow.Author.Needs.{needs}
 use Prim.Native.Nat.{_≤_, _-_}
 use lib.ListN.{length}

@@ -1,4 +1,4 @@
--- `machine_vectors::output::octal_digits` is safe and ends: each turn writes a digit one place before the last. Assumes nothing.
+-- Each turn writes a digit one place before the last.
 use borrow.Author.Needs.{needs}
 use Prim.Native.Nat.{_≤_}
 use native.Mathlib.Omega.{arith}

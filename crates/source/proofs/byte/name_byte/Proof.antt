@@ -1,4 +1,3 @@
--- `byte::name_byte` meets its contract. Assumes nothing.
 use mathlib.Core.Path.{_∙_}
 use borrow.Author.Needs.{needs}
 use Rattle.source.proofs.Names.{seventh, past-end, byte-of}

@@ -1,4 +1,4 @@
--- `number::number_of` meets its contract. The invariant: the number goes on from `n` over the digits that are left. Assumes nothing.
+-- The invariant: the number goes on from `n` over the digits that are left.
 use mathlib.Core.Path.{_≡_, refl, _∙_}
 use Prim.Native.Nat.{_-_, _≤_, min}
 use native.Mathlib.Omega.{arith}

@@ -1,4 +1,3 @@
--- `sign::sign` meets its contract. Assumes nothing.
 use native.Mathlib.Nat.{zero-add}
 use Rattle.source.proofs.sign.sign.Statement.{statement}
 use Rattle.source.proofs.sign.sign.Tie as tie

@@ -1,4 +1,3 @@
--- `sign::sign_at` meets its contract. Assumes nothing.
 use native.Mathlib.Omega.{arith}
 use Rattle.source.proofs.Signs.{moved, fits}
 use borrow.Author.Needs.{needs}

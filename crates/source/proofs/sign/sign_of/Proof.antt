@@ -1,6 +1,7 @@
--- `sign::sign_of` meets its contract: each arm computes. Assumes nothing.
+-- Each arm computes.
 use mathlib.Core.Path.{_∙_}
-use Rattle.source.specs.Bytes.{find, startsWith}
+use Rattle.prelude.specs.Choice.{find}
+use Rattle.source.specs.Bytes.{startsWith}
 use Rattle.source.specs.Tokens.{signToken}
 use Rattle.source.proofs.Signs.{none}
 use borrow.Author.Needs.{needs}

@@ -1,10 +1,9 @@
--- `assignment::assigned` meets its contract. Assumes nothing.
 use Rattle.statements.specs.Forms.{afterEqual}
 use mathlib.Core.Path.{refl}
-use Rattle.cells.proofs.Laws.{part-read}
-use Rattle.cells.proofs.Reading.{missing}
+use Rattle.parser.proofs.Answers.{part-read}
+use Rattle.parser.proofs.ReadLaws.{missing}
 use Rattle.emitter.proofs.Lays.{kept-here}
-use Rattle.statements.proofs.Laws.{from-got}
+use Rattle.statements.proofs.Forms.{from-got}
 use borrow.Author.Needs.{needs}
 use Rattle.statements.proofs.assignment.assigned.Statement.{statement}
 use Rattle.statements.proofs.assignment.assigned.Tie as tie

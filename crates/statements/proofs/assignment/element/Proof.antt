@@ -1,12 +1,11 @@
--- `assignment::element` meets its contract. Assumes nothing.
-use Rattle.syntax.specs.Statements.{parseElement}
-use Rattle.syntax.specs.Emission.{targetCell}
+use Rattle.grammar.specs.Statements.{parseElement}
+use Rattle.layout.specs.Words.{targetCell}
 use Rattle.symbols.specs.Trees.{treeCell}
-use Rattle.cells.specs.Reads.Reads.{fails}
-use Rattle.cells.proofs.Laws.{then-failed, got-read, got-failed, got-with}
+use Rattle.parser.specs.Reads.Reads.{fails}
+use Rattle.parser.proofs.Answers.{then-failed, got-read, got-failed, got-with}
 use Rattle.emitter.proofs.Lays.{kept-here}
-use Rattle.statements.proofs.Laws.{from-got}
-use Rattle.statements.proofs.Assigns.{stored-as}
+use Rattle.statements.proofs.Forms.{from-got}
+use Rattle.statements.proofs.AssignmentLaws.{stored-as}
 use borrow.Author.Needs.{needs}
 use Rattle.statements.proofs.assignment.element.Statement.{statement}
 use Rattle.statements.proofs.assignment.element.Tie as tie

@@ -1,11 +1,10 @@
--- `assignment::set_x` meets its contract. Assumes nothing.
 use mathlib.Core.Path.{refl}
-use Rattle.cells.specs.Reads.Reads.{read, fails}
+use Rattle.parser.specs.Reads.Reads.{read, fails}
 use Rattle.statements.specs.Forms.{afterEqual, loadedWords}
-use Rattle.cells.proofs.Laws.{got-read, got-failed, part-read, got-with}
-use Rattle.cells.proofs.Reading.{missing}
+use Rattle.parser.proofs.Answers.{got-read, got-failed, part-read, got-with}
+use Rattle.parser.proofs.ReadLaws.{missing}
 use Rattle.emitter.proofs.Lays.{kept-here}
-use Rattle.statements.proofs.Laws.{from-got, just-words}
+use Rattle.statements.proofs.Forms.{from-got, just-words}
 use borrow.Author.Needs.{needs}
 use Rattle.statements.proofs.assignment.set_x.Statement.{statement}
 use Rattle.statements.proofs.assignment.set_x.Tie as tie
@@ -48,9 +47,13 @@ same-length c = search needs
 returns-3 : tie.Need-returns-3
 unfolding afterEqual loadedWords
 returns-3 c =
-    let equal = part-read _ (c .before .before .before .before .before .before .before .before .before .before .expect .ensures) (c .before .before .before .before .before .before .before .before .part .given .1) in
-    let e = c .before .before .before .before .enum-told2 .given .1 in
-    from-got _ (equal .is) (read (got-read (got-with _ (c .before .before .before .before .before .before .lone-cell-at .ensures)) e) e (just-words _ (c .before .before .emit-cell .ensures .emitted)))
+    let at-emit-cell = c .before .before in
+    let at-lone-cell-at = at-emit-cell .before .before .before .before in
+    let at-part = at-lone-cell-at .before .before in
+    let at-expect = at-part .before .before in
+    let equal = part-read _ (at-expect .expect .ensures) (at-part .part .given .1) in
+    let e = at-emit-cell .before .before .enum-told2 .given .1 in
+    from-got _ (equal .is) (read (got-read (got-with _ (at-lone-cell-at .lone-cell-at .ensures)) e) e (just-words _ (at-emit-cell .emit-cell .ensures .emitted)))
 
 pub set-x-spec : {M : Type 1} → statement M
 set-x-spec =

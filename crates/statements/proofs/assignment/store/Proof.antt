@@ -1,8 +1,7 @@
--- `assignment::store` meets its contract. Assumes nothing.
-use Rattle.cells.specs.Reads.Reads.{read, fails}
-use Rattle.cells.proofs.Reading.{came, failed-as, kept-as}
+use Rattle.parser.specs.Reads.Reads.{read, fails}
+use Rattle.parser.proofs.ReadLaws.{came, failed-as, kept-as}
 use Rattle.statements.specs.Forms.{storedWords}
-use Rattle.statements.proofs.Laws.{then-words}
+use Rattle.statements.proofs.Forms.{then-words}
 use borrow.Author.Needs.{needs}
 use Rattle.statements.proofs.assignment.store.Statement.{statement}
 use Rattle.statements.proofs.assignment.store.Tie as tie
@@ -34,9 +33,12 @@ same-length-2 c = search needs
 returns-2 : tie.Need-returns-2
 unfolding storedWords
 returns-2 c =
-    let e = c .before .before .before .before .before .enum-told .given .1 in
-    let x = came (c .before .before .before .before .before .before .before .before .before .assigned .ensures) e in
-    read (x .is) e (then-words _ (x .holds) (c .before .before .emit-cell .ensures .emitted))
+    let at-emit-cell = c .before .before in
+    let at-enum-told = at-emit-cell .before .before .before in
+    let at-assigned = at-enum-told .before .before .before .before in
+    let e = at-enum-told .enum-told .given .1 in
+    let x = came (at-assigned .assigned .ensures) e in
+    read (x .is) e (then-words _ (x .holds) (at-emit-cell .emit-cell .ensures .emitted))
 
 pub store-spec : {M : Type 1} → statement M
 store-spec =

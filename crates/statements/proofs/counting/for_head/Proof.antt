@@ -1,9 +1,8 @@
--- `counting::for_head` meets its contract. Assumes nothing.
 use mathlib.Core.Path.{refl}
-use Rattle.syntax.specs.Tree.{Id}
+use Rattle.tree.specs.Tree.{Id}
 use Rattle.symbols.specs.Trees.{treeId, treeOperand, treeCell}
 use Rattle.statements.specs.Forms.{Head, counterOf, headWords}
-use Rattle.statements.proofs.Loops.{head-hash, head-integer, head-refused, heads, no-head}
+use Rattle.statements.proofs.CountingLaws.{head-hash, head-integer, head-refused, heads, no-head}
 use borrow.Author.Needs.{needs}
 use Rattle.statements.proofs.counting.for_head.Statement.{statement}
 use Rattle.statements.proofs.counting.for_head.Tie as tie
@@ -24,8 +23,8 @@ returns c =
     heads Head.hash Id.x (λ _. refl) (λ _ _. refl)
     (head-hash _ _ _ _ _ (taken .before .before .token-at .ensures) (taken .if1 .taken)) (c .before .before .set-x .ensures)
 
-symbol-at-requires : tie.Need-symbol-at-requires
-symbol-at-requires c κs = search needs
+lookup-at-requires : tie.Need-lookup-at-requires
+lookup-at-requires c κs = search needs
 
 enum-known-symbol : tie.Need-enum-known-symbol
 enum-known-symbol c = search needs
@@ -37,7 +36,7 @@ returns-2 : tie.Need-returns-2
 returns-2 c =
     let symbol = c .before .before in
     let token = symbol .before .before .before in
-    no-head _ (head-refused _ _ _ _ _ (token .token-at .ensures) _ (symbol .before .if1 .left) (symbol .symbol-at .ensures) (c .before .match .keys2)) (c .refuse-at .ensures)
+    no-head _ (head-refused _ _ _ _ _ (token .token-at .ensures) _ (symbol .before .if1 .left) (symbol .lookup-at .ensures) (c .before .match .keys2)) (c .refuse-at .ensures)
 
 plain-requires : tie.Need-plain-requires
 plain-requires c κs = search needs
@@ -56,7 +55,7 @@ returns-3 c =
     let symbol = known .before .before in
     let token = symbol .before .before .before in
     heads (Head.integer (treeId _)) (treeId _) (λ _. refl) (λ _ _. refl)
-    (head-integer _ _ _ _ _ (token .token-at .ensures) _ (symbol .before .if1 .left) (symbol .symbol-at .ensures) _ (known .symbol .given .1))
+    (head-integer _ _ _ _ _ (token .token-at .ensures) _ (symbol .before .if1 .left) (symbol .lookup-at .ensures) _ (known .symbol .given .1))
     (rw (plain .plain .ensures) at (c .before .before .store .ensures))
 
 pub for-head-spec : {M : Type 1} → statement M
@@ -67,7 +66,7 @@ for-head-spec =
     set-x-requires
     same-length
     returns
-    symbol-at-requires
+    lookup-at-requires
     enum-known-symbol
     refuse-at-requires
     returns-2

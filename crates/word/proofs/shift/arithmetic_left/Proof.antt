@@ -1,4 +1,3 @@
--- `word::shift::arithmetic_left` meets its contract. Assumes nothing.
 use borrow.Author.Needs.{needs}
 use Rattle.word.proofs.shift.arithmetic_left.Statement.{statement}
 use Rattle.word.proofs.shift.arithmetic_left.Tie as tie

@@ -1,4 +1,3 @@
--- `word::shift::arithmetic_right` meets its contract. Assumes nothing.
 use borrow.Author.Tests.{le-leb, lt-leb}
 use native.Mathlib.Omega.{arith}
 use native.Mathlib.Nat.{one-mul}

@@ -1,4 +1,3 @@
--- `word::shift::bit` meets its contract. Assumes nothing.
 use borrow.Author.Needs.{needs}
 use Rattle.word.proofs.shift.bit.Statement.{statement}
 use Rattle.word.proofs.shift.bit.Tie as tie

@@ -1,4 +1,3 @@
--- `word::shift::down` meets its contract. Assumes nothing.
 use mathlib.Core.Path.{refl}
 use native.Mathlib.Omega.{arith}
 use lib.Pow.{shr-le}

@@ -1,4 +1,3 @@
--- `word::shift::logical_left` meets its contract. Assumes nothing.
 use borrow.Author.Needs.{needs}
 use Rattle.word.proofs.shift.logical_left.Statement.{statement}
 use Rattle.word.proofs.shift.logical_left.Tie as tie

@@ -1,4 +1,3 @@
--- `word::shift::rotate_left` meets its contract. Assumes nothing.
 use borrow.Author.Needs.{needs}
 use Rattle.word.proofs.shift.rotate_left.Statement.{statement}
 use Rattle.word.proofs.shift.rotate_left.Tie as tie

@@ -1,4 +1,3 @@
--- `word::shift::rotate_right` meets its contract. Assumes nothing.
 use borrow.Author.Needs.{needs}
 use Rattle.word.proofs.shift.rotate_right.Statement.{statement}
 use Rattle.word.proofs.shift.rotate_right.Tie as tie

@@ -1,4 +1,4 @@
--- `word::shift::shift` meets its contract: at each `return` the tests that led there say which case holds. Assumes nothing.
+-- At each `return` the tests that led there say which case holds.
 use borrow.Author.Tests.{lt-ltb, le-ltb, ne-eqb}
 use Rattle.word.specs.Shift.{shiftOf}
 use borrow.Author.Needs.{needs}

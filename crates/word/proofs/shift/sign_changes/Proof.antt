@@ -1,4 +1,3 @@
--- `word::shift::sign_changes` meets its contract. Assumes nothing.
 use mathlib.Core.Path.{sym, _∙_}
 use lib.Dec.{leb, ltb}
 use mathlib.Core.Path.{ap}

@@ -1,4 +1,4 @@
--- `word::shift::up` meets its contract: a word shifted by at most 15 fits 32 bits. Assumes nothing.
+-- A word shifted by at most 15 fits 32 bits.
 use Prim.Native.Nat.{_≤_, _<_, _*_, _^_}
 use native.Mathlib.Omega.{arith}
 use native.Mathlib.Nat.{mul-le-mul}

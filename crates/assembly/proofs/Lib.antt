@@ -1,4 +1,0 @@
-pub mod Images
-pub mod Words
-pub mod Declarations
-pub mod Programs

@@ -1,2 +1,0 @@
--- What emission in the order of the code comes to.
-pub mod Assembly

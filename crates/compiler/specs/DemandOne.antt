@@ -1,0 +1,43 @@
+-- Demand 1 as a caller of `compile` and `run` sees it: how a call can end, whatever is handed in.
+use Prim.Native.Nat.{ℕ, _≤_, _<_}
+use mathlib.Core.Path.{_≡_}
+use mathlib.Core.List.{List}
+use lib.ListN.{length, replicate}
+use Rattle.machine.specs.declared.Clock.{Clock}
+use Rattle.machine.specs.declared.Request.{Request}
+use Rattle.machine.specs.declared.Machine.{Machine}
+use Rattle.machine.specs.declared.Outcome.{Outcome}
+use Rattle.machine.specs.declared.Report.{Report}
+use Rattle.machine.specs.State as machine
+use Rattle.machine.specs.Clock.{spendMany}
+use Rattle.machine.specs.Run.{ran, endedOf}
+use Rattle.runs.specs.Outcomes.{Ended, Refusal}
+use Rattle.parsing_laws.specs.Numbered.{Numbered}
+use Rattle.compiler.specs.declared.Answer.{Answer}
+use Rattle.compiler.specs.Compile.{scratchWords, CompileCalled}
+use Rattle.compiler.specs.DemandThree.{RunCalled}
+use Rattle.layout.specs.Addresses.{memoryWords}
+
+-- of `compile`; a failed call leaves the image as it was
+pub data CompileEnds (source image scratch : List ℕ) (r : Answer) (image' : List ℕ) : Type 0 where
+  -- "image not 16,384 words" is 1 at 0
+  wrong-image : (length image ≡ memoryWords → ⊥) → r ≡ Answer.Failed 1 0 → image' ≡ image → CompileEnds source image scratch r image'
+  -- "scratch under 12,288 words" is 2 at 0
+  short-scratch : length image ≡ memoryWords → length scratch < scratchWords → r ≡ Answer.Failed 2 0 → image' ≡ image → CompileEnds source image scratch r image'
+  -- 3 to 14, at an offset in the text
+  failed : length image ≡ memoryWords → scratchWords ≤ length scratch → (n at : ℕ) → r ≡ Answer.Failed n at → Numbered source n at → image' ≡ image → CompileEnds source image scratch r image'
+  -- what an image is and does: specs/DemandThree
+  accepted : length image ≡ memoryWords → scratchWords ≤ length scratch → length source ≤ 8192 → (entry words globals : ℕ) → r ≡ Answer.Accepted entry words globals → length image' ≡ memoryWords → CompileEnds source image scratch r image'
+
+-- of `run`
+pub data RunEnds (q : Request) (m : Machine) (k : Clock) (memory : List ℕ) (r : Report) (memory' : List ℕ) : Type 0 where
+  -- 1, 23 or 22, just on its cause: 0 steps, and everything as it was
+  refused : (n : ℕ) → Refusal q (machine.state m memory) n → r ≡ endedOf q k 0 (Outcome.Failed n) m → memory' ≡ memory → RunEnds q m k memory r memory'
+  -- halted, spent, or 20 or 21 with the state before that step: the steps that it reports were made, and the clock counts them
+  ended : ((n : ℕ) → Refusal q (machine.state m memory) n → ⊥) → Ended (q .budget) (machine.state m memory) (ran (r .steps) (r .outcome) (machine.state (r .machine) memory')) → r .clock ≡ spendMany q (r .steps) k
+      → RunEnds q m k memory r memory'
+
+pub record Demand1Called : Type 0 where
+  pub compiles : (source image scratch image' scratch' : List ℕ) (r : Answer) → CompileCalled source image scratch r image' scratch'
+      → CompileEnds source image scratch r image' × (scratch' ≡ replicate (length scratch) 0)
+  pub runs : (q : Request) (m : Machine) (k : Clock) (memory memory' : List ℕ) (r : Report) → RunCalled q m k memory r memory' → RunEnds q m k memory r memory'

@@ -1,0 +1,54 @@
+-- Demand 3 as a caller of `compile` and `run` sees it: about the answers, images and scratch that the calls give.
+use Prim.Native.Nat.{ℕ}
+use mathlib.Core.Path.{_≡_}
+use mathlib.Core.List.{List}
+use Rattle.machine.specs.declared.Clock.{Clock}
+use Rattle.machine.specs.declared.Request.{Request}
+use Rattle.machine.specs.declared.Machine.{Machine}
+use Rattle.machine.specs.declared.Report.{Report}
+use Rattle.machine.specs.State as machine
+use Rattle.machine.specs.Run.{runDef, reportOf}
+use Rattle.runs.specs.Runs.{Total, noRun, withRun, runsDef}
+use Rattle.tree.specs.Tree.{Program}
+use Rattle.compilation.specs.Compile.{Compiled, Result, compileDef}
+use Rattle.semantics.specs.Trace.{State}
+use Rattle.semantics.specs.Agreement.{Loaded, Loads, Agrees}
+use Rattle.compiler.specs.declared.Answer.{Answer}
+use Rattle.compiler.specs.Compile.{CompileCalled}
+
+-- ---- The calls
+
+-- a call of `run`: what it ensures, no more. Of `compile` that is `CompileCalled`, its contract
+pub record RunCalled (q : Request) (m : Machine) (k : Clock) (memory : List ℕ) (r : Report) (memory' : List ℕ) : Type 0 where
+  pub reported : r ≡ reportOf q k (runDef q (machine.state m memory))
+  pub left : memory' ≡ runDef q (machine.state m memory) .state .image
+
+-- a list of calls of `run` from a state, "each going on from what the last one left, nobody else writing to it", and what it comes to.
+-- The clock is the service's, which others' runs move on too: each call may have any
+pub data Calls : machine.State → Total → Type 0 where
+  none : {s : machine.State} → Calls s (noRun s)
+  one : {q : Request} {k : Clock} {s : machine.State} {r : Report} {memory : List ℕ} {t : Total}
+      → RunCalled q (s .machine) k (s .image) r memory → Calls (machine.state (r .machine) memory) t → Calls s (withRun q (r .outcome) (r .steps) t)
+
+-- ---- The statement
+
+-- a program with what the call of `compile` gave for it
+abbrev pub delivered : Program → List ℕ → ℕ → ℕ → ℕ → Compiled
+delivered p image entry words globals = record { program = p; image = image; entry = entry; words = words; globals = globals }
+
+pub record Accepted (source image : List ℕ) (entry words globals : ℕ) : Type 0 where
+  -- the program that the source is, by the definition; its image, entry and counts are those that the call gave
+  pub program : Program
+  pub defined : compileDef source ≡ Result.accepted (delivered program image entry words globals)
+  -- "its image loaded, its integers and array cells, A, B, C, X and keys given any values, and the machine set at the entry"
+  pub agrees : (σ : State) (s : machine.State) → Loaded (delivered program image entry words globals) σ s → Agrees program σ (Calls s)
+  -- every list of requests is such a list of calls, with what its runs come to,
+  pub called : (qs : List Request) (s : machine.State) → Calls s (runsDef qs s)
+  -- and such machines exist: the image itself is such a memory, and so it is with any values for the variables
+  pub loads : Loads (delivered program image entry words globals)
+
+-- "Suppose a recipe is accepted"
+unfoldable pub Demand3Called : Type 0
+Demand3Called =
+    (source image scratch image' scratch' : List ℕ) (r : Answer) → CompileCalled source image scratch r image' scratch'
+    → (entry words globals : ℕ) → r ≡ Answer.Accepted entry words globals → Accepted source image' entry words globals

@@ -1,0 +1,161 @@
+-- Declarations: a fold over them, each read under the allocation after those before it.
+use Prim.Native.Nat.{ℕ, _-_}
+use mathlib.Core.Bool.{Bool, true, false}
+use mathlib.Core.List.{List, [], _∷_, foldl}
+use mathlib.Core.Option.{none, some}
+use lib.ListN.{length}
+use lib.Dec.{leb, ltb}
+use Rattle.prelude.specs.Choice.{whether}
+use Rattle.source.specs.Kinds
+use Rattle.source.specs.declared.Token.{Token}
+use Rattle.source.specs.Tokens.{tokenAt, nameOf}
+use Rattle.tree.specs.Tree.{Name, Item, Declaration}
+use Rattle.tree.specs.Symbols.{Names, Scope, isTaken, declareItem, localScope, mostNames}
+use Rattle.layout.specs.Allocation.{allocated}
+use Rattle.layout.specs.Limits.{nameLimit, spaceLimit, declarationLimit}
+use Rattle.grammar.specs.Parse.{Got, andThen, failAt, within, is, expect, snoc, repeat, separated}
+use Rattle.grammar.specs.Parse.Got.{got}
+use Rattle.grammar.specs.Vocabulary.{asOneOf}
+use Rattle.grammar.specs.Cells.{parseConstant, parseInRange}
+use Rattle.grammar.specs.Statements.{parseOutermost}
+
+-- ---- Declared names
+
+-- a new name, with the limit of its word; "513th name alive (X uncounted)" is 10. All are judged before the next token is looked at
+unfoldable pub newName : List ℕ → Scope → ℕ → Token → Got Name
+newName source scope limit t =
+    whether (is Kinds.name t)
+    (λ _. whether (isTaken scope (nameOf source t)) (λ _. failAt t 8) λ _.
+    whether (leb mostNames (length (scope .names))) (λ _. failAt t 10) λ _.
+    within limit t (got (nameOf source t) (t .next)))
+    (λ _. failAt t 6)
+
+-- ---- Integers, constants and compconstants, at both levels
+
+-- `.INTEGER`, `.CONSTANT`, `.COMPCONSTANT`
+pub data ItemKeyword : Type 0 where
+  integer constant compconstant : ItemKeyword
+
+abbrev pub itemKeywords : List (ℕ × ItemKeyword)
+itemKeywords = (Kinds.INTEGER, ItemKeyword.integer) ∷ (Kinds.CONSTANT, ItemKeyword.constant) ∷ (Kinds.COMPCONSTANT, ItemKeyword.compconstant) ∷ []
+
+-- the limit at an item's name: "Compconstants take none" of the words
+unfoldable pub itemLimit : ItemKeyword → Scope → ℕ
+itemLimit ItemKeyword.integer scope = nameLimit scope
+itemLimit ItemKeyword.constant scope = nameLimit scope
+itemLimit ItemKeyword.compconstant scope = 0
+
+-- "Array size: the absolute value as signed"
+unfoldable pub sizeOf : ℕ → ℕ
+sizeOf v = whether (leb v 32767) (λ _. v) (λ _. 65536 - v)
+
+module _ (source : List ℕ) where
+  -- "name=constant", after the name
+  unfoldable pub parseValue : Scope → Name → (ℕ → Item) → ℕ → Got (Name × Item)
+  parseValue scope name item at =
+      andThen (expect Kinds.equal source at) (λ _ n.
+      andThen (parseConstant source (scope .names) n) (λ v next. got (name, item v) next))
+
+  -- "`.INTEGER` names; `.CONSTANT` and `.COMPCONSTANT` name=constant"
+  unfoldable pub itemFrom : ItemKeyword → Scope → Name → ℕ → Got (Name × Item)
+  itemFrom ItemKeyword.integer scope name at = got (name, Item.integer) at
+  itemFrom ItemKeyword.constant scope name at = parseValue scope name Item.constant at
+  itemFrom ItemKeyword.compconstant scope name at = parseValue scope name Item.compconstant at
+
+  -- a name and its item
+  unfoldable pub parseItem : ItemKeyword → Scope → ℕ → Got (Name × Item)
+  parseItem keyword scope at =
+      andThen (newName source scope (itemLimit keyword scope) (tokenAt source at)) (itemFrom keyword scope)
+
+  -- "lists are parted by commas", "declarations each ended by `;`": some list, each of its items added to what is declared before it
+  unfoldable pub parseList : {A : Type 0} → (A → ℕ → Got A) → A → ℕ → Got A
+  parseList more done at =
+      andThen (separated source Kinds.comma (more done) more at) (λ longer n.
+      andThen (expect Kinds.semicolon source n) (λ _ next. got longer next))
+
+  -- ---- Locals
+
+  -- "Locals are integers, constants and compconstants; a local hides a global."
+  unfoldable pub parseLocal : Scope → ItemKeyword → List (Name × Item) → ℕ → Got (List (Name × Item))
+  parseLocal scope keyword done at =
+      andThen (parseItem keyword (foldl declareItem scope done) at) (λ item next. got (snoc done item) next)
+
+  -- any lists of locals, each ended by `;`
+  unfoldable pub parseLocals : Scope → ℕ → Got (List (Name × Item))
+  parseLocals scope at =
+      repeat source (λ done n.
+      let t = tokenAt source n in
+      asOneOf itemKeywords t (λ keyword. some (parseList (parseLocal scope keyword) done (t .next))) (λ _. none)) [] at
+
+  -- ---- Declarations of the program
+
+  -- one more integer, constant or compconstant
+  unfoldable pub parseGlobal : ItemKeyword → List Declaration → ℕ → Got (List Declaration)
+  parseGlobal keyword ds at =
+      let scope = allocated ds .scope in
+      andThen (parseItem keyword scope at) (λ item next. got (snoc ds (Declaration.item (item .0) (item .1))) next)
+
+  -- "more initial values than size" is 14, at the first value too many
+  unfoldable pub parseInitial : Names → ℕ → List ℕ → ℕ → Got (List ℕ)
+  parseInitial names size values at =
+      andThen (parseConstant source names at) (λ v next.
+      whether (ltb (length values) size) (λ _. got (snoc values v) next) (λ _. failAt (tokenAt source at) 14))
+
+  -- "optionally with (constants)"
+  unfoldable pub parseInitials : Names → ℕ → ℕ → Got (List ℕ)
+  parseInitials names size at =
+      let t = tokenAt source at in
+      whether (is Kinds.leftParenthesis t)
+      (λ _. andThen (separated source Kinds.comma (parseInitial names size []) (parseInitial names size) (t .next)) (λ values n.
+      andThen (expect Kinds.rightParenthesis source n) (λ _ next. got values next)))
+      (λ _. got [] at)
+
+  -- "name[constant], optionally with (constants)"; the array's space is judged at the `]`
+  unfoldable pub parseArray : List Declaration → ℕ → Got (List Declaration)
+  parseArray ds at =
+      let st = allocated ds in
+      andThen (newName source (st .scope) (nameLimit (st .scope)) (tokenAt source at)) (λ name n.
+      andThen (expect Kinds.leftBracket source n) (λ _ m.
+      andThen (parseInRange source (st .scope .names) (λ v. leb (sizeOf v) 8192) m) (λ v k.
+      andThen (expect Kinds.rightBracket source k) (λ closing l.
+      within (spaceLimit st (sizeOf v)) closing (andThen (parseInitials (st .scope .names) (sizeOf v) l) (λ values next.
+      got (snoc ds (Declaration.array name (sizeOf v) values)) next))))))
+
+  -- a declaration that is judged at its last token, then `;`; "before it moves", and even if the `;` is missing
+  unfoldable pub parseLimited : List Declaration → Declaration → Token → Got (List Declaration)
+  parseLimited ds d last =
+      within (declarationLimit (allocated ds) d) last (andThen (expect Kinds.semicolon source (last .next)) (λ _ next. got (snoc ds d) next))
+
+  -- "name; `.BEGIN` locals and statements `.END`", after `.PROCEDURE`; its name is taken from the start and known after the `.END`
+  unfoldable pub parseProcedure : List Declaration → Bool → ℕ → Got (List Declaration)
+  parseProcedure ds accumulator at =
+      let scope = allocated ds .scope in
+      andThen (newName source scope (nameLimit scope) (tokenAt source at)) (λ name n.
+      andThen (expect Kinds.semicolon source n) (λ _ m.
+      andThen (expect Kinds.BEGIN source m) (λ _ k.
+      andThen (parseLocals (localScope scope name) k) (λ locals l.
+      andThen (parseOutermost source (foldl declareItem (localScope scope name) locals .names) l) (λ body j.
+      andThen (expect Kinds.END source j) (λ last _.
+      parseLimited ds (Declaration.procedure name accumulator locals body) last))))))
+
+  -- "with `.ACCUMULATOR` before it if it may be a term"
+  unfoldable pub parseAccumulator : List Declaration → ℕ → Got (List Declaration)
+  parseAccumulator ds at = andThen (expect Kinds.PROCEDURE source at) (λ _ n. parseProcedure ds true n)
+
+  -- "Declarations: `.INTEGER` ..; `.CONSTANT` and `.COMPCONSTANT` ..; `.ARRAY` ..; `.NEXTSECTOR`. `.PROCEDURE` .."
+  abbrev pub declarationKeywords : List (ℕ × (List Declaration → Token → Got (List Declaration)))
+  declarationKeywords =
+      (Kinds.INTEGER, λ ds t. parseList (parseGlobal ItemKeyword.integer) ds (t .next)) ∷
+      (Kinds.CONSTANT, λ ds t. parseList (parseGlobal ItemKeyword.constant) ds (t .next)) ∷
+      (Kinds.COMPCONSTANT, λ ds t. parseList (parseGlobal ItemKeyword.compconstant) ds (t .next)) ∷
+      (Kinds.ARRAY, λ ds t. parseList parseArray ds (t .next)) ∷
+      (Kinds.NEXTSECTOR, λ ds t. parseLimited ds Declaration.nextSector t) ∷
+      (Kinds.PROCEDURE, λ ds t. parseProcedure ds false (t .next)) ∷
+      (Kinds.ACCUMULATOR, λ ds t. parseAccumulator ds (t .next)) ∷ []
+
+  -- any declarations, each read under the allocation after those before it
+  unfoldable pub parseDeclarations : ℕ → Got (List Declaration)
+  parseDeclarations at =
+      repeat source (λ ds n.
+      let t = tokenAt source n in
+      asOneOf declarationKeywords t (λ parse. some (parse ds t)) (λ _. none)) [] at

@@ -1,0 +1,162 @@
+-- Worked examples of failures and of nesting, decided by computation.
+use mathlib.Core.Path.{_≡_, refl}
+use Prim.Native.Nat.{ℕ, zero, suc}
+use Prim.Native.String.{String}
+use mathlib.Core.List.{List, [], _∷_, _++_, map}
+use lib.ListN.{replicate}
+use Rattle.source.specs.Bytes.{bytes}
+use Rattle.source.specs.Tokens.{tokenAt}
+use Rattle.tree.specs.Symbols.{Symbol, Level, Scope, localScope}
+use Rattle.grammar.specs.Parse.{Got}
+use Rattle.grammar.specs.Parse.Got.{got, failed}
+use Rattle.grammar.specs.Expressions.{parseExpr}
+use Rattle.grammar.specs.Declarations.{newName}
+use Rattle.grammar.specs.Program.{parseProgram}
+use Rattle.grammar.specs.Computed.{computed}
+
+abbrev resultOf : {A : Type 0} → Got A → ℕ × ℕ
+resultOf (got tree next) = (0, 0)
+resultOf (failed n at) = (n, at)
+
+-- a source, with the number and offset of its failure, or 0 and 0 if it parses
+abbrev rows : List (String × ℕ × ℕ)
+rows =
+    -- text ended
+    ("", 6, 0) ∷
+    (" \n ", 6, 3) ∷
+    (".BEGIN .INTEGER A; A = 1 ", 6, 25) ∷
+    -- the minus: with no digit; a constant after a subscript's integer, the operator after a lone cell
+    (".BEGIN @=X---1 .END", 6, 11) ∷
+    (".BEGIN @=X-32768 .END", 5, 11) ∷
+    (".BEGIN @=- 1 .END", 6, 9) ∷
+    (".BEGIN @=-32769 .END", 5, 9) ∷
+    (".BEGIN .ARRAY T[3]; T[X-40000]=1 .END", 5, 23) ∷
+    (".BEGIN #=X-40000 .END", 6, 10) ∷
+    (".BEGIN .FOR #=X-40000 .DO .END", 6, 15) ∷
+    (".BEGIN .WHEN X=X-40000 .THEN .END", 6, 16) ∷
+    (".BEGIN X-40000=1 .END", 5, 8) ∷
+    -- tokens taken longest
+    (".BEGIN .WHEN .SENSE12 .THEN .END", 6, 20) ∷
+    (".BEGIN .WHEN .SENSE5 .THEN .END", 4, 13) ∷
+    (".BEGIN @='18 .END", 6, 11) ∷
+    (".BEGIN @=X .LGL15 .END", 0, 0) ∷
+    -- the first six characters count
+    (".BEGIN .INTEGER ABCDEFG, ABCDEFH; .END", 8, 25) ∷
+    (".BEGIN .INTEGER ABCDE1, ABCDE2; ABCDE2XX=1 .END", 0, 0) ∷
+    -- the leftmost token; at one token the lower number; names count alike
+    (".BEGIN Y=1 * .END", 7, 7) ∷
+    (".BEGIN X=1 * .END", 4, 11) ∷
+    (".BEGIN X=1 40000 .END", 5, 11) ∷
+    (".BEGIN X=1 Y .END", 6, 11) ∷
+    (".BEGIN .END .END", 6, 12) ∷
+    -- declared names and their kinds
+    (".BEGIN .INTEGER X; .END", 8, 16) ∷
+    (".BEGIN .CONSTANT A=A; .END", 7, 19) ∷
+    (".BEGIN .ARRAY A[3](A); .END", 7, 19) ∷
+    (".BEGIN .CONSTANT A=3; .PROCEDURE P; .BEGIN .CONSTANT A=A; .END; .END", 0, 0) ∷
+    (".BEGIN .CONSTANT A=1, B=A; A=2 .END", 7, 27) ∷
+    (".BEGIN .PROCEDURE P; .BEGIN P .END; .END", 7, 28) ∷
+    (".BEGIN .PROCEDURE P; .BEGIN .INTEGER P, A; P=A .END; P; A=1 .END", 7, 56) ∷
+    (".BEGIN .PROCEDURE P; .BEGIN .END; @=P .END", 7, 36) ∷
+    (".BEGIN .ACCUMULATOR .PROCEDURE P; .BEGIN .END; @=X+P .END", 7, 51) ∷
+    (".BEGIN .ARRAY T[1]; @=T+1 .END", 6, 23) ∷
+    (".BEGIN X[1]=1 .END", 6, 8) ∷
+    (".BEGIN .CONSTANT K=1; .FOR K=1 .DO .END", 7, 27) ∷
+    (".BEGIN .FOR @=1 .DO .END", 6, 12) ∷
+    -- declarations
+    (".BEGIN .PROCEDURE P; .BEGIN .INTEGER A, A; .END; .END", 8, 40) ∷
+    (".BEGIN .PROCEDURE P; .BEGIN .CONSTANT A=1, B=A; .END; .END", 0, 0) ∷
+    (".BEGIN .PROCEDURE P; .BEGIN .ARRAY T[1]; .END; .END", 6, 28) ∷
+    (".BEGIN .ACCUMULATOR .INTEGER A; .END", 6, 20) ∷
+    (".BEGIN .NEXTSECTOR .END", 6, 19) ∷
+    (".BEGIN .INTEGER ; .END", 6, 16) ∷
+    (".BEGIN .INTEGER A B; .END", 6, 18) ∷
+    (".BEGIN .INTEGER A;; .INTEGER B; .END", 6, 20) ∷
+    (".BEGIN .ARRAY T[1](); .END", 6, 19) ∷
+    -- sizes, initial values, amounts
+    (".BEGIN .ARRAY T[8192], U['160000]; .END", 13, 32) ∷
+    (".BEGIN .ARRAY T[8193]; .END", 5, 16) ∷
+    (".BEGIN .ARRAY T[1](5,6); .END", 14, 21) ∷
+    (".BEGIN .ARRAY T[1](5,Y); .END", 7, 21) ∷
+    (".BEGIN @=X .ALS 15 .END", 0, 0) ∷
+    (".BEGIN @=X .ALS 16 .END", 5, 16) ∷
+    (".BEGIN @=X .ALS 0 .END", 5, 16) ∷
+    -- statements
+    (".BEGIN .IF .CSET .THEN X=1; .ELSE X=2 .END", 6, 26) ∷
+    (".BEGIN .WHEN .ZERO .ZERO .THEN .END", 0, 0) ∷
+    (".BEGIN @=X + .ZERO .END", 6, 13) ∷
+    (".BEGIN @=.NEG .IF .CSET .THEN 1 .ELSE 2 .END", 6, 14) ∷ []
+
+failures : map (λ row. resultOf (parseProgram (bytes (row .0)))) rows ≡ map (λ row. (row .1, row .2)) rows
+unfolding computed
+failures = refl
+
+-- ---- What a name may be used as: one row for each use, in it the failure of an integer, a constant, a compconstant, an array, a procedure,
+-- an accumulator procedure, an undeclared name and X
+
+abbrev used : String → String → List ℕ
+used before after =
+    map (λ name. resultOf (parseProgram (bytes ".BEGIN .INTEGER I; .CONSTANT K=3; .COMPCONSTANT C=4; .ARRAY T[5]; .PROCEDURE P; .BEGIN .END; .ACCUMULATOR .PROCEDURE F; .BEGIN .END; "
+    ++ (bytes before ++ (bytes name ++ (bytes after ++ bytes " .END"))))) .0)
+    ("I" ∷ "K" ∷ "C" ∷ "T" ∷ "P" ∷ "F" ∷ "N" ∷ "X" ∷ [])
+
+uses :
+    used ".CONSTANT V=" ";" ∷ used ".FOR " "=1 .DO" ∷ used "@=T[" "]" ∷ used "@=X+" "" ∷ used "@=" "" ∷ used "" "=1" ∷ used "" "" ∷ []
+    ≡ (7 ∷ 0 ∷ 0 ∷ 7 ∷ 7 ∷ 7 ∷ 7 ∷ 7 ∷ []) ∷
+    (0 ∷ 7 ∷ 7 ∷ 7 ∷ 7 ∷ 7 ∷ 7 ∷ 0 ∷ []) ∷
+    (0 ∷ 0 ∷ 0 ∷ 7 ∷ 7 ∷ 7 ∷ 7 ∷ 0 ∷ []) ∷
+    (0 ∷ 0 ∷ 0 ∷ 6 ∷ 7 ∷ 7 ∷ 7 ∷ 0 ∷ []) ∷
+    (0 ∷ 0 ∷ 0 ∷ 6 ∷ 7 ∷ 0 ∷ 7 ∷ 0 ∷ []) ∷
+    (0 ∷ 7 ∷ 7 ∷ 6 ∷ 6 ∷ 6 ∷ 7 ∷ 0 ∷ []) ∷
+    (6 ∷ 7 ∷ 7 ∷ 6 ∷ 0 ∷ 0 ∷ 7 ∷ 6 ∷ []) ∷ []
+unfolding computed
+uses = refl
+
+-- ---- Nesting: 32 levels pass; the 33rd fails at its first token, unless that token fails by a lower number; an empty statement adds none
+
+abbrev times : ℕ → List ℕ → List ℕ
+times zero bs = []
+times (suc n) bs = bs ++ times n bs
+
+abbrev bracketed : ℕ → String → ℕ × ℕ
+bracketed n inside = resultOf (parseExpr (times n (bytes "(") ++ (bytes inside ++ times n (bytes ")"))) [] 33 0)
+
+abbrev compound : ℕ → String → ℕ × ℕ
+compound n inside = resultOf (parseProgram (bytes ".BEGIN " ++ (times n (bytes ".BEGIN ") ++ (bytes inside ++ (times n (bytes " .END") ++ bytes " .END")))))
+
+-- the argument of a call that is a statement is at that statement's level, that of a call that is a term one further in
+abbrev called : ℕ → ℕ × ℕ
+called n = resultOf (parseProgram (bytes ".BEGIN .ACCUMULATOR .PROCEDURE F; .BEGIN .END; " ++ (times n (bytes "F(") ++ (bytes "1" ++ (times n (bytes ")") ++ bytes " .END")))))
+
+nesting :
+    bracketed 32 "X" ∷ bracketed 33 "X" ∷ bracketed 33 ")" ∷ bracketed 33 "Y" ∷ bracketed 33 "40000" ∷ bracketed 33 "*" ∷ bracketed 33 ".NEG" ∷ bracketed 33 ".IF" ∷
+    bracketed 31 ".IF X .ZERO .THEN 1 .ELSE 2" ∷ bracketed 32 ".IF X .ZERO .THEN 1 .ELSE 2" ∷ bracketed 32 ".IF .CSET .THEN 1 .ELSE 2" ∷
+    compound 32 "X=1" ∷ compound 33 "X=1" ∷ compound 33 "Y=1" ∷ compound 33 ";" ∷ compound 33 "" ∷ compound 31 "X=(1)" ∷ compound 32 "X=(1)" ∷
+    called 33 ∷ called 34 ∷ []
+    ≡ (0, 0) ∷ (9, 33) ∷ (6, 33) ∷ (7, 33) ∷ (5, 33) ∷ (4, 33) ∷ (9, 33) ∷ (9, 33) ∷
+    (0, 0) ∷ (9, 36) ∷ (9, 48) ∷
+    (0, 0) ∷ (9, 238) ∷ (7, 238) ∷ (0, 0) ∷ (0, 0) ∷ (0, 0) ∷ (9, 234) ∷
+    (0, 0) ∷ (9, 115) ∷ []
+unfolding computed
+nesting = refl
+
+-- ---- 512 live names pass, the 513th is 10, and 8 goes first; a procedure's own name is among those that its locals see
+
+abbrev scopeOf : ℕ → Scope
+scopeOf n = record { names = replicate n (bytes "A", record { level = Level.outer; symbol = Symbol.unknown }); level = Level.outer; taken = 0 }
+
+abbrev named : Scope → String → ℕ × ℕ
+named scope name = resultOf (newName (bytes name) scope 0 (tokenAt (bytes name) 0))
+
+live-names :
+    named (scopeOf 511) "B" ∷ named (scopeOf 512) "B" ∷ named (scopeOf 512) "A" ∷ named (scopeOf 512) "X" ∷
+    named (localScope (scopeOf 510) (bytes "P")) "A" ∷ named (localScope (scopeOf 511) (bytes "P")) "A" ∷ []
+    ≡ (0, 0) ∷ (10, 0) ∷ (8, 0) ∷ (8, 0) ∷ (0, 0) ∷ (10, 0) ∷ []
+unfolding computed
+live-names = refl
+
+-- ---- 8,192 bytes pass, one more is 3 at 0
+
+length-limit : resultOf (parseProgram (times 8192 (bytes " "))) ∷ resultOf (parseProgram (times 8193 (bytes " "))) ∷ [] ≡ (6, 8192) ∷ (3, 0) ∷ []
+unfolding computed
+length-limit = refl

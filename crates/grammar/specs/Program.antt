@@ -1,0 +1,30 @@
+-- A program.
+use Prim.Native.Nat.{ℕ}
+use mathlib.Core.List.{List}
+use lib.ListN.{length}
+use lib.Dec.{leb}
+use Rattle.prelude.specs.Choice.{whether}
+use Rattle.source.specs.Kinds
+use Rattle.tree.specs.Tree.{Declaration, Program}
+use Rattle.layout.specs.Allocation.{allocated}
+use Rattle.layout.specs.Limits.{mainLimit}
+use Rattle.grammar.specs.Parse.{Got, andThen, within, expect}
+use Rattle.grammar.specs.Parse.Got.{got, failed}
+use Rattle.grammar.specs.Statements.{parseOutermost}
+use Rattle.grammar.specs.Declarations.{parseDeclarations}
+
+-- "statements parted by `;`, `.END`", after the declarations; nothing but blanks may follow
+unfoldable pub parseMain : List ℕ → List Declaration → ℕ → Got Program
+parseMain source ds at =
+    andThen (parseOutermost source (allocated ds .scope .names) at) (λ main n.
+    andThen (expect Kinds.END source n) (λ last m.
+    within (mainLimit (allocated ds) main) last (andThen (expect Kinds.endOfSource source m) (λ _ next.
+    got (record { declarations = ds; main = main }) next))))
+
+-- "Program: `.BEGIN`, declarations each ended by `;`, statements parted by `;`, `.END`." "text over 8,192 bytes" is 3, at 0, before anything is read
+unfoldable pub parseProgram : List ℕ → Got Program
+parseProgram source =
+    whether (leb (length source) 8192)
+    (λ _. andThen (expect Kinds.BEGIN source 0) (λ _ n.
+    andThen (parseDeclarations source n) (λ ds m. parseMain source ds m)))
+    (λ _. failed 3 0)

@@ -1,0 +1,35 @@
+-- The codes of the memory-reference instructions, as document 01's "Order table" has them.
+use Prim.Native.Nat.{ℕ}
+
+abbrev pub JMP : ℕ
+JMP = 0o1
+
+abbrev pub LDA : ℕ
+LDA = 0o2
+
+abbrev pub ANA : ℕ
+ANA = 0o3
+
+abbrev pub STA : ℕ
+STA = 0o4
+
+abbrev pub ERA : ℕ
+ERA = 0o5
+
+abbrev pub ADD : ℕ
+ADD = 0o6
+
+abbrev pub SUB : ℕ
+SUB = 0o7
+
+abbrev pub JST : ℕ
+JST = 0o10
+
+abbrev pub CAS : ℕ
+CAS = 0o11
+
+abbrev pub IRS : ℕ
+IRS = 0o12
+
+abbrev pub LDX : ℕ
+LDX = 0o15

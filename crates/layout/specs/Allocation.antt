@@ -1,0 +1,60 @@
+-- The allocation of the fold over the declarations.
+use Prim.Native.Nat.{ℕ, suc, _+_, _-_, _*_}
+use mathlib.Core.List.{List, [], _∷_, _++_, foldl}
+use lib.ListN.{length}
+use Rattle.tree.specs.Tree.{Name, Item, Stmts, Declaration}
+use Rattle.tree.specs.Symbols.{Symbol, Level, Scope, declare, declareItem, localScope}
+use Rattle.layout.specs.Words.{Sym, after, procedureWords, mainWords}
+use Rattle.layout.specs.Pool.{literalsOf, addedAll}
+use Rattle.layout.specs.Addresses.{sectorWords, firstCode, firstArray}
+
+-- the live names and the count of globals; the next address of code; the open sector's pool; where the code of each closed sector ends; element 0 of the next array
+pub record Allocation : Type 0 where
+  pub scope : Scope
+  pub next : ℕ
+  pub pool : List ℕ
+  pub ends : List ℕ
+  pub array : ℕ
+
+-- "Code starts at '1000", in sector 1. "Array bodies go down from word 16,382 (element 0 of the first is 16,383)"
+abbrev pub start : Allocation
+start = record { scope = record { names = []; level = Level.outer; taken = 0 }; next = firstCode; pool = []; ends = []; array = firstArray }
+
+-- the number of the sector that is being filled
+abbrev pub sectorOf : Allocation → ℕ
+sectorOf st = suc (length (st .ends))
+
+-- "A procedure lays its local integers and constants, a zero link, its code": how many locals take a word, and the link's address
+unfoldable pub localWords : Allocation → Name → List (Name × Item) → ℕ
+localWords st name locals = foldl declareItem (localScope (st .scope) name) locals .taken
+
+abbrev pub linkOf : Allocation → Name → List (Name × Item) → ℕ
+linkOf st name locals = st .next + localWords st name locals
+
+-- with words laid at the next address, after so many words that name nothing
+abbrev pub withCode : Allocation → Scope → ℕ → List Sym → Allocation
+withCode st scope others ws =
+    record { scope = scope; next = after ws (st .next + others); pool = addedAll (st .pool) (literalsOf ws); ends = st .ends; array = st .array }
+
+abbrev pub withScope : Allocation → Scope → Allocation
+withScope st scope = record { scope = scope; next = st .next; pool = st .pool; ends = st .ends; array = st .array }
+
+-- the allocation after a declaration. After a procedure its name is known and its locals are gone
+unfoldable pub allocate : Allocation → Declaration → Allocation
+allocate st (Declaration.item name item) = withScope st (declareItem (st .scope) (name, item))
+allocate st (Declaration.array name size values) =
+    let scope = declare (st .scope) name (Symbol.array (record { number = st .scope .taken; size = size })) 1 in
+    record { scope = scope; next = st .next; pool = st .pool; ends = st .ends; array = st .array - size }
+allocate st (Declaration.procedure name accumulator locals body) =
+    let scope = declare (st .scope) name (Symbol.procedure (st .scope .taken) accumulator) 1 in
+    withCode st scope (suc (localWords st name locals)) (procedureWords body (linkOf st name locals))
+-- "`.NEXTSECTOR` then moves to the sector of 512 after the one being filled, even if that one is empty or exactly full"
+allocate st Declaration.nextSector =
+    record { scope = st .scope; next = sectorWords * suc (sectorOf st); pool = []; ends = st .ends ++ (st .next ∷ []); array = st .array }
+
+unfoldable pub allocated : List Declaration → Allocation
+allocated ds = foldl allocate start ds
+
+-- the allocation after the main body
+unfoldable pub finish : Allocation → Stmts → Allocation
+finish st main = withCode st (st .scope) 0 (mainWords main (st .next))

@@ -1,0 +1,102 @@
+-- No cell and no link stands twice in the map of a program.
+use Prim.Native.Nat.{ℕ, _+_, _-_, _≤_}
+use mathlib.Core.Path.{_≡_, refl, sym, ap, subst, _∙_}
+use mathlib.Core.List.{List, [], _∷_, _++_, map}
+use native.Mathlib.Nat.{zero-add, le-refl, le-trans}
+use native.Mathlib.Omega.{arith}
+use lib.ListN.{length, getD, replicate, length-replicate}
+use Rattle.tree.specs.Tree.{Id, CellId, Name, Item, Declaration, Program}
+use Rattle.layout.specs.Words.{procedureWords, mainWords}
+use Rattle.layout.specs.Allocation.{Allocation, start, localWords, linkOf, allocated}
+use Rattle.layout.specs.Map.{Role, Plan, frame, wordOf, fixedWords, placed, localItems, placeDeclaration, placeAll, planOf, mapOf, mapAt}
+use Rattle.layout.specs.Map as map
+use Rattle.parsing_laws.specs.WellFormed.{WellFormed}
+use Rattle.memory_map.proofs.Belonging.{Spots, AtHome, at-home, homes-append, homes-fixed, homes-free, Settled, settle, item-home, locals-home, elements-home}
+use Rattle.memory_map.proofs.Belonging as homes
+use Rattle.memory_map.proofs.DeclarationWords.{local-length}
+use Rattle.memory_map.proofs.RoomBefore.{Needs, AllFit, all-fit, main-below, array-down, arrays-down}
+use Rattle.memory_map.proofs.RoomBefore as fit
+use Rattle.memory_map.proofs.HomesByNumber.{spotsFrom, Spotted, AllSpotted, last, next, all-spotted}
+
+-- ---- The link follows the locals
+
+local-words : (st : Allocation) (name : Name) (ls : List (Name × Item)) (q : ℕ) → localWords st name ls ≡ length (localItems q 0 ls)
+local-words st name ls q = sym (local-length st name q ls)
+
+-- ---- Each declaration keeps the map settled
+
+module _ (f : Spots) (n : ℕ) (big : 16384 ≤ n) where
+  declaration-settled : (plan : Plan) (st : Allocation) (d : Declaration) (m : List Role) → st .array ≤ 16383 → Needs st d → Spotted f st d → Settled f n m
+      → Settled f n (placeDeclaration plan st d m)
+  unfolding placeDeclaration fixedWords
+  declaration-settled plan st (Declaration.item name item) m low h s g =
+      settle (0o200 + st .scope .taken) (omega arith) g (item-home (Id.global (st .scope .taken)) item _ refl)
+  declaration-settled plan st (Declaration.array name size values) m low h s g =
+      let k : ℕ = st .array - size in
+      let fits : size ≤ st .array = h .2 in
+      let small : size ≤ 8192 = h .1 in
+      settle k (omega arith) (settle (0o200 + st .scope .taken) (omega (arith, h .0)) g (homes.more tt homes.none))
+      (elements-home (st .scope .taken) (65536 - size) size values k (omega arith) (omega arith))
+  declaration-settled plan st (Declaration.procedure name accumulator locals body) m low h s g =
+      let q : ℕ = st .scope .taken in
+      let words = local-words st name locals q in
+      let code : st .next ≤ st .array = h .1 in
+      let own : f q .0 ≡ st .next = ap (λ (t : ℕ × ℕ). t .0) s in
+      let link : f q .1 ≡ linkOf st name locals = ap (λ (t : ℕ × ℕ). t .1) s in
+      let first : st .next ≡ f q .0 + 0 = omega arith in
+      let after : st .next + length (localItems q 0 locals) ≡ f q .1 = omega arith in
+      settle (st .next) (omega arith) (settle (0o200 + q) (omega (arith, h .0)) g (homes.more tt homes.none))
+      (homes-append (locals-home q 0 locals (st .next) first) refl
+      (homes.more after (homes-fixed (wordOf (frame plan (st .next))) (procedureWords body (linkOf st name locals)) _)))
+  declaration-settled plan st Declaration.nextSector m low h s g =
+      settle (st .next) (omega arith) g (homes-fixed (λ (v : ℕ). v) (st .pool) (st .next))
+
+  all-settled : (plan : ℕ → Plan) {st : Allocation} {ds : List Declaration} (m : List Role) → st .array ≤ 16383 → AllFit st ds → AllSpotted f st ds → Settled f n m
+      → Settled f n (placeAll plan st ds m)
+  unfolding placeAll
+  all-settled plan m low fit.last s g = g
+  all-settled plan {st = st} m low (fit.next {d = d} h hs) (next s ss) g =
+      all-settled plan (placeDeclaration (plan (length (st .ends))) st d m) (le-trans (array-down st d) low) hs ss
+      (declaration-settled (plan (length (st .ends))) st d m low h s g)
+
+-- ---- The whole map
+
+-- the map over so many words
+unfoldable built : Program → ℕ → List Role
+built p n =
+    let plan = planOf p (length (map.declared p .ends)) in
+    placed (placeAll (planOf p) start (p .declarations) (placed (replicate n Role.free) 0 (Role.cell (CellId.named Id.x) 0 ∷ []))) (map.declared p .next)
+    (fixedWords (frame plan (map.declared p .next)) (mainWords (p .main) (map.declared p .next)) ++ map Role.fixed (plan .pool))
+
+map-built : (p : Program) → mapOf p ≡ built p 16384
+unfolding mapOf built
+map-built p = refl
+
+module _ (p : Program) (w : WellFormed p) where
+  abbrev spots : Spots
+  spots = spotsFrom start (p .declarations)
+
+  built-settled : (n : ℕ) → 16384 ≤ n → Settled spots n (built p n)
+  unfolding built map.declared allocated fixedWords
+  built-settled n big =
+      let below = main-below p w in
+      let array = arrays-down start (p .declarations) in
+      let free : Settled spots n (replicate n Role.free) = record { homes = homes-free n 0; long = omega (arith, length-replicate n Role.free) } in
+      let plan = planOf p (length (map.declared p .ends)) in
+      let at : ℕ = map.declared p .next in
+      settle at (omega arith)
+      (all-settled spots n big (planOf p) _ (le-refl _) (all-fit (w .declarations)) (all-spotted start (p .declarations))
+      (settle 0 (omega arith) free (homes.more refl homes.none)))
+      (homes-append (homes-fixed (wordOf (frame plan at)) (mainWords (p .main) at) at) refl (homes-fixed (λ (v : ℕ). v) (plan .pool) _))
+
+  at-spot : (k : ℕ) (c : Role) → mapAt p k ≡ c → AtHome spots k c
+  at-spot k c e =
+      let s = built-settled 16384 (le-refl _) in
+      subst (λ (d : Role). AtHome spots k d) (ap (λ (m : List Role). getD m k Role.free) (sym (map-built p)) ∙ e)
+      (subst (λ (j : ℕ). AtHome spots j (getD (built p 16384) k Role.free)) (zero-add k) (at-home (s .homes) k))
+
+pub once : (p : Program) → WellFormed p → (k l : ℕ) (i : CellId) (v u : ℕ) → mapAt p k ≡ Role.cell i v → mapAt p l ≡ Role.cell i u → k ≡ l
+once p w k l i v u e d = at-spot p w k (Role.cell i v) e ∙ sym (at-spot p w l (Role.cell i u) d)
+
+pub link-once : (p : Program) → WellFormed p → (k l n : ℕ) → mapAt p k ≡ Role.link n → mapAt p l ≡ Role.link n → k ≡ l
+link-once p w k l n e d = at-spot p w k (Role.link n) e ∙ sym (at-spot p w l (Role.link n) d)

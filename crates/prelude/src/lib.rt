@@ -1,0 +1,1 @@
+// What every definition is made of. The definitions are in specs/.

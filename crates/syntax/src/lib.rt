@@ -1,1 +1,0 @@
-// The syntax tree and parsing. The definitions are in specs/.

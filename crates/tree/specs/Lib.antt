@@ -1,0 +1,5 @@
+-- The syntax tree, and what names stand for.
+pub mod Tree
+pub mod Symbols
+pub mod Variables
+pub mod Examples

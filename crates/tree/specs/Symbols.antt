@@ -1,0 +1,167 @@
+-- The symbol table (document 01: the names alive): what each live name stands for.
+use Prim.Native.Nat.{ℕ, _+_}
+use mathlib.Core.Bool.{Bool, true, false}
+use mathlib.Core.List.{List, _∷_}
+use mathlib.Core.Option.{Option, none, some}
+use Rattle.prelude.specs.Choice.{whether, find, given}
+use Rattle.source.specs.Bytes.{bytes, sameBytes}
+use Rattle.tree.specs.Tree.{Id, Array, Operand, Name, Item, Declaration}
+
+-- what a name stands for: an integer; a constant, with its value; a compconstant; an array; a procedure, by its number, which counts
+-- with the globals, and whether it is an accumulator procedure; or nothing known: a name that is not declared, or of the procedure that is being read ("known only after that procedure's `.END`")
+pub data Symbol : Type 0 where
+  integer : Id → Symbol
+  constant : Id → ℕ → Symbol
+  compconstant : ℕ → Symbol
+  array : Array → Symbol
+  procedure : ℕ → Bool → Symbol
+  unknown : Symbol
+
+-- the level of a declaration: global, or in the procedure of a number
+pub data Level : Type 0 where
+  outer : Level
+  inner : ℕ → Level
+
+-- what the table has of a name
+pub record Entry : Type 0 where
+  pub level : Level
+  pub symbol : Symbol
+
+-- as many names may be alive at a time, X not counted
+abbrev pub mostNames : ℕ
+mostNames = 512
+
+-- the live names, newest first; X is not among them
+abbrev pub Names : Type 0
+Names = List (Name × Entry)
+
+-- "X is predeclared"
+unfoldable pub isX : Name → Bool
+isX name = sameBytes name (bytes "X")
+
+-- what a name stands for: the newest entry's, so that "a local hides a global"
+unfoldable pub symbolOf : Names → Name → Symbol
+symbolOf names name =
+    whether (isX name) (λ _. Symbol.integer Id.x) λ _.
+    given (find (sameBytes name) names) (λ row. row .1 .symbol) (λ _. Symbol.unknown)
+
+-- ---- What a name may be used as
+
+-- "a constant's name": its value
+unfoldable pub asConstant : Symbol → Option ℕ
+asConstant (Symbol.integer i) = none
+asConstant (Symbol.constant i v) = some v
+asConstant (Symbol.compconstant v) = some v
+asConstant (Symbol.array a) = none
+asConstant (Symbol.procedure p accumulator) = none
+asConstant Symbol.unknown = none
+
+-- "integer"
+unfoldable pub asInteger : Symbol → Option Id
+asInteger (Symbol.integer i) = some i
+asInteger (Symbol.constant i v) = none
+asInteger (Symbol.compconstant v) = none
+asInteger (Symbol.array a) = none
+asInteger (Symbol.procedure p accumulator) = none
+asInteger Symbol.unknown = none
+
+-- "integer, constant"
+unfoldable pub asOperand : Symbol → Option Operand
+asOperand (Symbol.integer i) = some (Operand.named i)
+asOperand (Symbol.constant i v) = some (Operand.named i)
+asOperand (Symbol.compconstant v) = some (Operand.literal v)
+asOperand (Symbol.array a) = none
+asOperand (Symbol.procedure p accumulator) = none
+asOperand Symbol.unknown = none
+
+-- "array"
+unfoldable pub asArray : Symbol → Option Array
+asArray (Symbol.integer i) = none
+asArray (Symbol.constant i v) = none
+asArray (Symbol.compconstant v) = none
+asArray (Symbol.array a) = some a
+asArray (Symbol.procedure p accumulator) = none
+asArray Symbol.unknown = none
+
+-- "a procedure's name": its number
+unfoldable pub asProcedure : Symbol → Option ℕ
+asProcedure (Symbol.integer i) = none
+asProcedure (Symbol.constant i v) = none
+asProcedure (Symbol.compconstant v) = none
+asProcedure (Symbol.array a) = none
+asProcedure (Symbol.procedure p accumulator) = some p
+asProcedure Symbol.unknown = none
+
+-- "an accumulator procedure"
+unfoldable pub asFunction : Symbol → Option ℕ
+asFunction (Symbol.integer i) = none
+asFunction (Symbol.constant i v) = none
+asFunction (Symbol.compconstant v) = none
+asFunction (Symbol.array a) = none
+asFunction (Symbol.procedure p true) = some p
+asFunction (Symbol.procedure p false) = none
+asFunction Symbol.unknown = none
+
+-- ---- Declaring names
+
+-- only one procedure is read at a time
+unfoldable pub sameLevel : Level → Level → Bool
+sameLevel Level.outer Level.outer = true
+sameLevel Level.outer (Level.inner p) = false
+sameLevel (Level.inner p) Level.outer = false
+sameLevel (Level.inner p) (Level.inner q) = true
+
+-- what a declaration is read under: the live names, its level, and how many words that level's names have taken
+pub record Scope : Type 0 where
+  pub names : Names
+  pub level : Level
+  pub taken : ℕ
+
+-- the id of a level's next name
+unfoldable pub nextId : Level → ℕ → Id
+nextId Level.outer n = Id.global n
+nextId (Level.inner p) n = Id.local p n
+
+-- what an item's name will stand for
+unfoldable pub itemSymbol : Scope → Item → Symbol
+itemSymbol scope Item.integer = Symbol.integer (nextId (scope .level) (scope .taken))
+itemSymbol scope (Item.constant v) = Symbol.constant (nextId (scope .level) (scope .taken)) v
+itemSymbol scope (Item.compconstant v) = Symbol.compconstant v
+
+-- how many words an item takes: "Compconstants take none."
+unfoldable pub wordsTaken : Item → ℕ
+wordsTaken Item.integer = 1
+wordsTaken (Item.constant v) = 1
+wordsTaken (Item.compconstant v) = 0
+
+-- the value of an item: "integer 0; constant its value"; a compconstant's too, which no word holds
+unfoldable pub itemValue : Item → ℕ
+itemValue Item.integer = 0
+itemValue (Item.constant v) = v
+itemValue (Item.compconstant v) = v
+
+-- of a declaration, how many words of sector 0: globals are numbered by them
+unfoldable pub globalsOf : Declaration → ℕ
+globalsOf (Declaration.item name item) = wordsTaken item
+globalsOf (Declaration.array name size values) = 1
+globalsOf (Declaration.procedure name accumulator locals body) = 1
+globalsOf Declaration.nextSector = 0
+
+-- the scope after a name's declaration, with the words that it takes
+unfoldable pub declare : Scope → Name → Symbol → ℕ → Scope
+declare scope name symbol taken =
+    record { names = (name, record { level = scope .level; symbol = symbol }) ∷ scope .names; level = scope .level; taken = scope .taken + taken }
+
+-- "Other names are known after their item."
+unfoldable pub declareItem : Scope → Name × Item → Scope
+declareItem scope item = declare scope (item .0) (itemSymbol scope (item .1)) (wordsTaken (item .1))
+
+-- the scope of a procedure's locals: the procedure's own name is taken, and not yet known
+unfoldable pub localScope : Scope → Name → Scope
+localScope scope name = record { names = declare scope name Symbol.unknown 0 .names; level = Level.inner (scope .taken); taken = 0 }
+
+-- "name twice at one level, or X declared" is 8
+unfoldable pub isTaken : Scope → Name → Bool
+isTaken scope name =
+    whether (isX name) (λ _. true) λ _.
+    given (find (sameBytes name) (scope .names)) (λ row. sameLevel (row .1 .level) (scope .level)) (λ _. false)
