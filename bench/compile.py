@@ -22,7 +22,7 @@ SOURCES = {
     "empty statements": filled(".BEGIN ", ";", " .END"),
     "unary words": filled(".BEGIN @=", ".NOT", " @ .END"),
     "unary words, four sectors": filled(".BEGIN ", ".PROCEDURE P%; .BEGIN @=" + ".NOT" * 497 + "@ .END; .NEXTSECTOR;", ".END"),
-    "point-words at the table's end": filled(".BEGIN ", ".WHEN .NOKEY .THEN;", " .END"),
+    "keywords at the table's end": filled(".BEGIN ", ".WHEN .NOKEY .THEN;", " .END"),
     "the oldest of 380 names": filled(".BEGIN .INTEGER QQ," + names(379) + "; ", "QQ=QQ;", " .END"),
     "the same, four sectors": filled(".BEGIN .INTEGER QQ," + names(370) + "; ", ".PROCEDURE P%; .BEGIN " + "QQ=QQ;" * 252 + " .END; .NEXTSECTOR;", ".END"),
     "brackets": filled(".BEGIN @=", "(", " .END"),

@@ -61,7 +61,7 @@ fn no_cell() -> Cell
     }
 }
 
-// A token as an operand, by what it stands for.
+// A token as an operand, by what it stands for (E1).
 fn operand_of(t: Token, symbol: Symbol) -> OperandAnswer
     ensures { λ r. ⌜ (r .part, treeOperand (r .operand)) ≡ readOr noOperand (operandBy (treeSymbol symbol) t) ⌝ }
 {
@@ -86,7 +86,7 @@ fn operand_of(t: Token, symbol: Symbol) -> OperandAnswer
     }
 }
 
-// A subscript between its brackets.
+// A subscript between its brackets (E3).
 fn inner_subscript_at(source: &[u8], table: &[u16], names: usize, at: usize) -> SubscriptAnswer
     ensures { λ r. ⌜ (r .part, treeSubscript (r .subscript))
         ≡ readOr tree.Subscript.hash (subscriptOf (now (source .entry)) (liveNames names (now (table .entry))) (tokenAt (now (source .entry)) at)) ⌝ }
@@ -113,7 +113,7 @@ fn inner_subscript_at(source: &[u8], table: &[u16], names: usize, at: usize) -> 
     }
 }
 
-// A subscript in its brackets.
+// A subscript with its brackets (E2).
 pub fn subscript_at(source: &[u8], table: &[u16], names: usize, at: usize) -> SubscriptAnswer
     ensures { λ r. ⌜ (r .part, treeSubscript (r .subscript))
         ≡ readOr tree.Subscript.hash (parseSubscript (now (source .entry)) (liveNames names (now (table .entry))) at) ⌝ }
@@ -218,7 +218,7 @@ pub fn cell_at(source: &[u8], table: &[u16], names: usize, at: usize) -> CellAns
     cell_from(source, table, names, start, next)
 }
 
-// A cell after which no operation may stand.
+// A cell after which no operation may stand; a minus there is an operator all the same (T11).
 pub fn lone_cell_at(source: &[u8], table: &[u16], names: usize, at: usize) -> CellAnswer
     ensures { λ r. ⌜ (r .part, treeCell (r .cell)) ≡ readOr noCell (parseLoneCell (now (source .entry)) (liveNames names (now (table .entry))) at) ⌝ }
 {

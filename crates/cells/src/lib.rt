@@ -53,6 +53,7 @@ pub struct ConstantAnswer {
     pub value: u16,
 }
 
+// A numeral, or a name that has a value (D12).
 pub fn constant_at(source: &[u8], table: &[u16], names: usize, at: usize) -> ConstantAnswer
     ensures { λ r. ⌜ (r .part, r .value) ≡ readOr 0 (parseConstant (now (source .entry)) (liveNames names (now (table .entry))) at) ⌝ }
 {
@@ -69,7 +70,7 @@ pub fn constant_at(source: &[u8], table: &[u16], names: usize, at: usize) -> Con
     }
 }
 
-// A shift's amount.
+// A shift's amount (E7).
 pub fn amount_at(source: &[u8], table: &[u16], names: usize, at: usize) -> ConstantAnswer
     ensures { λ r. ⌜ (r .part, r .value) ≡ readOr 0 (parseInRange (now (source .entry)) (liveNames names (now (table .entry))) (between 1 15) at) ⌝ }
 {
@@ -89,7 +90,7 @@ pub fn amount_at(source: &[u8], table: &[u16], names: usize, at: usize) -> Const
     }
 }
 
-// The size that a constant gives: "the absolute value as signed".
+// The size that a constant gives: how far it is from 0, taken as signed (D6).
 pub fn size_of(value: u16) -> u16
     ensures { λ r. ⌜ r ≡ sizeOf value ⌝ }
 {
@@ -99,7 +100,7 @@ pub fn size_of(value: u16) -> u16
     65535 - value + 1
 }
 
-// The constant that gives an array's size.
+// The constant that gives an array's size (D6).
 pub fn size_at(source: &[u8], table: &[u16], names: usize, at: usize) -> ConstantAnswer
     ensures { λ r. ⌜ (r .part, r .value)
         ≡ readOr 0 (parseInRange (now (source .entry)) (liveNames names (now (table .entry))) (λ v. leb (sizeOf v) 8192) at) ⌝ }

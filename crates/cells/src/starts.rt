@@ -95,7 +95,7 @@ pub fn term_start_at(source: &[u8], table: &[u16], names: usize, at: usize) -> T
     }
 }
 
-// An expression at a level too many.
+// An expression at a level too many (J10).
 pub fn too_deep_at(source: &[u8], table: &[u16], names: usize, at: usize) -> Part
     ensures { λ r. ⌜ r ≡ partOf (tooDeepExpr (now (source .entry)) (liveNames names (now (table .entry))) (tokenAt (now (source .entry)) at)) ⌝ }
 {

@@ -1,4 +1,4 @@
--- Worked examples of the words laid, decided by computation. The words are in octal, written from document 01's "Words laid" and "Order table".
+-- Worked examples of whole sources, decided by computation. The words are in octal, worked out by hand from the rules of groups W, A and I.
 use mathlib.Core.Path.{_≡_, refl}
 use Prim.Native.Nat.{ℕ, zero, suc}
 use Prim.Native.String.{String}
@@ -15,17 +15,19 @@ use Rattle.compilation.specs.Computed.{computed}
 
 -- ---- The listing
 
-first-recipe :
+-- the first program (K1)
+first-program :
     listingDef (compileDef (bytes ".BEGIN .INTEGER A; A = 2140 + 1875 + 960 .END"))
     ≡ bytes "result=0\nat=0\nentry=001000\nwords=8\nglobals=1\ng=000200:000000\nw=001000:005005\nw=001001:015006\nw=001002:015007\nw=001003:010200\nw=001004:000000\nw=001005:004134\nw=001006:003523\nw=001007:001700\n"
 unfolding computed
-first-recipe = refl
+first-program = refl
 
 -- each word of a gap has its line: of 513 lines of 16 bytes the last two
 gap-lines : drop 8223 (listingDef (compileDef (bytes ".BEGIN .NEXTSECTOR; .END"))) ≡ bytes "w=001777:000000\nw=002000:000000\n"
 unfolding computed
 gap-lines = refl
 
+-- two arrays of 8,192 words, at the second `]` (K5)
 failed-listing : listingDef (compileDef (bytes ".BEGIN .ARRAY T[8192], U[8192]; .END")) ≡ bytes "result=13\nat=29\n"
 unfolding computed
 failed-listing = refl
@@ -61,7 +63,7 @@ times (suc n) s = bytes s ++ times n s
 
 -- ---- Expressions
 
--- the unary words follow the term, right to left, and come before the additions: LDA B, AOA, TCA, ADD 5, STA A
+-- the unary words act on the term, the last one first, ahead of the addition: LDA B, AOA, TCA, ADD 5, STA A (K6)
 unary-first : wordsOf ".BEGIN .INTEGER A, B; A = .NEG .INC B + 5 .END" ≡ (0o1000, 0 ∷ 0 ∷ [], 0o004201 ∷ 0o141206 ∷ 0o140407 ∷ 0o015006 ∷ 0o010200 ∷ 0o000000 ∷ 0o000005 ∷ [])
 unfolding computed
 unary-first = refl
@@ -73,7 +75,7 @@ every-unary :
 unfolding computed
 every-unary = refl
 
--- left to right: ADD SUB ANA ERA, and the shifts, plus 64 - n
+-- the operators as they are written, then the shifts, each plus 64 - n
 every-operation :
     wordsOf ".BEGIN .INTEGER A; @ = A + A - A .AND A .NEV A .LGR 1 .ARS 2 .ARR 3 .LGL 4 .ALS 5 .ALR 15 .END"
     ≡ (0o1000, 0 ∷ [], 0o004200 ∷ 0o014200 ∷ 0o016200 ∷ 0o006200 ∷ 0o012200 ∷ 0o040477 ∷ 0o040576 ∷ 0o040675 ∷ 0o041474 ∷ 0o041573 ∷ 0o041661 ∷ 0o000000 ∷ [])
@@ -87,7 +89,7 @@ conditional = refl
 
 -- ---- Cells and the pool
 
--- the value first: LDX J, LDA* B, then LDX I, STA* A
+-- the value first: LDX J, LDA* B, then LDX I, STA* A (K6)
 element-to-element : wordsOf ".BEGIN .ARRAY A[3], B[2]; .INTEGER I, J; A[I] = B[J] .END" ≡ (0o1000, 0o077777 ∷ 0o077774 ∷ 0 ∷ 0 ∷ [], 0o072203 ∷ 0o104201 ∷ 0o072202 ∷ 0o110200 ∷ 0o000000 ∷ [])
 unfolding computed
 element-to-element = refl
@@ -102,7 +104,7 @@ set-x : wordsOf ".BEGIN .ARRAY T[2]; # = T[X]; # = T[#]; # = 3 .END" ≡ (0o1000
 unfolding computed
 set-x = refl
 
--- equal literals share a word: LDA 5, ADD 5, SUB 6; -1 and '177777 are equal, and so are a compconstant and a numeral; a named constant has its own word
+-- equal literals share a word (K6): LDA 5, ADD 5, SUB 6; -1 and '177777 are equal, and so are a compconstant and a numeral; a named constant has its own word
 shared : wordsOf ".BEGIN .INTEGER A; A = 5 + 5 - 6 .END" ≡ (0o1000, 0 ∷ [], 0o005005 ∷ 0o015005 ∷ 0o017006 ∷ 0o010200 ∷ 0o000000 ∷ 5 ∷ 6 ∷ [])
 unfolding computed
 shared = refl
@@ -113,7 +115,7 @@ shared-spellings :
 unfolding computed
 shared-spellings = refl
 
--- in order of first use among the words laid: LDA 5, LDX -1, STA* S
+-- pooled as first used, the value before the subscript: LDA 5, LDX -1, STA* S
 pool-order : wordsOf ".BEGIN .ARRAY S[1]; S[-1]=5 .END" ≡ (0o1000, 0o077777 ∷ [], 0o005004 ∷ 0o073005 ∷ 0o110200 ∷ 0o000000 ∷ 5 ∷ 0o177777 ∷ [])
 unfolding computed
 pool-order = refl
@@ -123,14 +125,14 @@ pool-order = refl
 abbrev compared : String → List ℕ
 compared relation = part 0o1000 7 (compileDef (bytes ".BEGIN .INTEGER A, B; .WHEN A " ++ (bytes relation ++ bytes " B .THEN @ = .ZERO .END")))
 
--- LDA A, CAS B, the words of the relation, CRA, HLT: what fails goes to the HLT
+-- LDA A, CAS B, the words of the relation, CRA, HLT: what fails goes to the HLT (K6)
 every-relation :
     map compared ("=" ∷ "<>" ∷ ">" ∷ ">=" ∷ "<" ∷ "<=" ∷ [])
     -- SKP, SKP, JMP '1006
     ≡ (0o004200 ∷ 0o022201 ∷ 0o100000 ∷ 0o100000 ∷ 0o003006 ∷ 0o140040 ∷ 0o000000 ∷ []) ∷
     -- SKP, JMP '1005
     (0o004200 ∷ 0o022201 ∷ 0o100000 ∷ 0o003005 ∷ 0o140040 ∷ 0o000000 ∷ 0 ∷ []) ∷
-    -- JMP *+3, NOP, JMP '1006
+    -- JMP '1005, NOP, JMP '1006
     (0o004200 ∷ 0o022201 ∷ 0o003005 ∷ 0o101000 ∷ 0o003006 ∷ 0o140040 ∷ 0o000000 ∷ []) ∷
     -- NOP, SKP, JMP '1006
     (0o004200 ∷ 0o022201 ∷ 0o101000 ∷ 0o100000 ∷ 0o003006 ∷ 0o140040 ∷ 0o000000 ∷ []) ∷
@@ -141,7 +143,7 @@ every-relation :
 unfolding computed
 every-relation = refl
 
--- each single test and its JMP, here to the next test: SZE SNZ SPL SMI SLN SLZ, SSC SRC SS1 SS2 SS3 SS4 SSS SSR
+-- each test and its JMP, here to the next test. The skips: SZE, SNZ, SPL, SMI, SLN and SLZ of A; SSC and SRC of C; SS1 to SS4, SSS and SSR of the switches
 every-test :
     wordsOf ".BEGIN .WHEN @ .ZERO .THEN; .WHEN @ .NONZERO .THEN; .WHEN @ .PLUS .THEN; .WHEN @ .MINUS .THEN; .WHEN @ .ODD .THEN; .WHEN @ .EVEN .THEN; .WHEN .CSET .THEN; .WHEN .NOTC .THEN; .WHEN .SENSE1 .THEN; .WHEN .SENSE2 .THEN; .WHEN .SENSE3 .THEN; .WHEN .SENSE4 .THEN; .WHEN .ANYKEY .THEN; .WHEN .NOKEY .THEN .END"
     ≡ (
@@ -220,7 +222,7 @@ empty-sector-words = refl
 
 -- ---- Failures 11 to 13; of an allocation alone they are in the crate layout
 
--- 384 global integers pass, the 385th is 11, as is any name that takes a word there; a compconstant takes none, and a local none of sector 0
+-- so many global integers
 abbrev integers : ℕ → List Declaration
 integers n = replicate n (Declaration.item (bytes "A") Item.integer)
 
@@ -228,6 +230,7 @@ abbrev refusal : {A : Type 0} → Got A → ℕ
 refusal (Got.got tree next) = 0
 refusal (Got.failed n at) = n
 
+-- 384 global integers pass, the 385th is 11 (K5), as is any name that takes a word there; a compconstant takes none, and a local none of sector 0
 global-words :
     refusal (parseGlobal (bytes "B") ItemKeyword.integer (integers 383) 0) ∷ refusal (parseGlobal (bytes "B") ItemKeyword.integer (integers 384) 0) ∷
     refusal (parseGlobal (bytes "B=1") ItemKeyword.constant (integers 384) 0) ∷ refusal (parseGlobal (bytes "B=1") ItemKeyword.compconstant (integers 384) 0) ∷

@@ -1,4 +1,4 @@
--- The listing: the lines of document 01's first recipe, "failure number or 0, byte offset, entry, count of words from '1000 .., count of words from '200, then the words of '200 up and of '1000 up ..; all but the first two and the counts in octal".
+-- The listing (group P of docs/REFERENCE.md), as bytes.
 use Prim.Native.Nat.{ℕ, zero, suc, _+_, _/_, _%_}
 use mathlib.Core.List.{List, [], _∷_, _++_}
 use lib.Dec.{ltb}
@@ -8,15 +8,16 @@ use Rattle.source.specs.Bytes.{bytes}
 use Rattle.compilation.specs.Compile.{Result}
 use Rattle.layout.specs.Addresses.{firstGlobal, firstCode}
 
--- six octal digits, from the highest
+-- so many of a number's octal digits, from the highest
 unfoldable pub digits : ℕ → ℕ → List ℕ
 digits zero n = []
 digits (suc k) n = digits k (n / 8) ++ ((48 + n % 8) ∷ [])
 
+-- six of them (P3)
 abbrev pub octal : ℕ → List ℕ
 octal n = digits 6 n
 
--- a number in decimal, with as many digits as it has; the fuel is more than that
+-- a number in decimal, with as many digits as it has; the fuel is more than that (P3)
 unfoldable pub decimalBy : ℕ → ℕ → List ℕ
 decimalBy zero n = []
 decimalBy (suc k) n = whether (ltb n 10) (λ _. []) (λ _. decimalBy k (n / 10)) ++ ((48 + n % 10) ∷ [])
@@ -27,19 +28,21 @@ decimal n = decimalBy 20 n
 abbrev pub newline : List ℕ
 newline = 10 ∷ []
 
--- the line of each word, from an address on
+-- the line of each word, from an address on (P2)
 unfoldable pub wordLines : List ℕ → ℕ → List ℕ → List ℕ
 wordLines letter at [] = []
 wordLines letter at (w ∷ ws) = letter ++ (octal at ++ (bytes ":" ++ (octal w ++ (newline ++ wordLines letter (suc at) ws))))
 
+-- an item and its value, ended by a newline (P1)
 abbrev pub line : List ℕ → List ℕ → List ℕ
 line name value = name ++ (value ++ newline)
 
+-- five lines, then those of the globals and of what is counted from the first word of code on (P1, P2)
 unfoldable pub listingDef : Result → List ℕ
 listingDef (Result.accepted c) =
     line (bytes "result=") (decimal 0) ++ (line (bytes "at=") (decimal 0) ++ (line (bytes "entry=") (octal (c .entry)) ++
     (line (bytes "words=") (decimal (c .words)) ++ (line (bytes "globals=") (decimal (c .globals)) ++
     (wordLines (bytes "g=") firstGlobal (take (c .globals) (drop firstGlobal (c .image))) ++
     wordLines (bytes "w=") firstCode (take (c .words) (drop firstCode (c .image))))))))
--- "A failure prints the first two lines only."
+-- a failure is two lines (P4)
 listingDef (Result.failed n at) = line (bytes "result=") (decimal n) ++ line (bytes "at=") (decimal at)

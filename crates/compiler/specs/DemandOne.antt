@@ -1,4 +1,4 @@
--- Demand 1 as a caller of `compile` and `run` sees it: how a call can end, whatever is handed in.
+-- Demand 1 as a caller of `compile` and `run` sees it: how a call can end, whatever is handed in. Clauses are those of docs/DEMANDS.md.
 use Prim.Native.Nat.{ℕ, _≤_, _<_}
 use mathlib.Core.Path.{_≡_}
 use mathlib.Core.List.{List}
@@ -18,26 +18,29 @@ use Rattle.compiler.specs.Compile.{scratchWords, CompileCalled}
 use Rattle.compiler.specs.DemandThree.{RunCalled}
 use Rattle.layout.specs.Addresses.{memoryWords}
 
--- of `compile`; a failed call leaves the image as it was
+-- of `compile` (demand 1a); each way to fail leaves the image as it was (demand 1c)
 pub data CompileEnds (source image scratch : List ℕ) (r : Answer) (image' : List ℕ) : Type 0 where
-  -- "image not 16,384 words" is 1 at 0
+  -- an image of another length: 1 at 0 (F1)
   wrong-image : (length image ≡ memoryWords → ⊥) → r ≡ Answer.Failed 1 0 → image' ≡ image → CompileEnds source image scratch r image'
-  -- "scratch under 12,288 words" is 2 at 0
+  -- too little scratch: 2 at 0 (F2)
   short-scratch : length image ≡ memoryWords → length scratch < scratchWords → r ≡ Answer.Failed 2 0 → image' ≡ image → CompileEnds source image scratch r image'
-  -- 3 to 14, at an offset in the text
+  -- a failure of the source: 3 to 14, at an offset in it (J4)
   failed : length image ≡ memoryWords → scratchWords ≤ length scratch → (n at : ℕ) → r ≡ Answer.Failed n at → Numbered source n at → image' ≡ image → CompileEnds source image scratch r image'
-  -- what an image is and does: specs/DemandThree
+  -- an image; what it is and does says specs/DemandThree
   accepted : length image ≡ memoryWords → scratchWords ≤ length scratch → length source ≤ 8192 → (entry words globals : ℕ) → r ≡ Answer.Accepted entry words globals → length image' ≡ memoryWords → CompileEnds source image scratch r image'
 
--- of `run`
+-- of `run` (demand 1b)
 pub data RunEnds (q : Request) (m : Machine) (k : Clock) (memory : List ℕ) (r : Report) (memory' : List ℕ) : Type 0 where
-  -- 1, 23 or 22, just on its cause: 0 steps, and everything as it was
+  -- 1, 23 or 22, just on its cause: 0 steps, and everything as it was (R7, J12, demand 1d)
   refused : (n : ℕ) → Refusal q (machine.state m memory) n → r ≡ endedOf q k 0 (Outcome.Failed n) m → memory' ≡ memory → RunEnds q m k memory r memory'
-  -- halted, spent, or 20 or 21 with the state before that step: the steps that it reports were made, and the clock counts them
+  -- halted, spent, or 20 or 21 with the state before that step (R6, demand 1d): the steps that it reports were made, and the clock counts them
   ended : ((n : ℕ) → Refusal q (machine.state m memory) n → ⊥) → Ended (q .budget) (machine.state m memory) (ran (r .steps) (r .outcome) (machine.state (r .machine) memory')) → r .clock ≡ spendMany q (r .steps) k
       → RunEnds q m k memory r memory'
 
+-- DEMAND 1 of every call
 pub record Demand1Called : Type 0 where
+  -- of `compile`, and scratch is all zeros after it (demand 1a, 1c, 1e)
   pub compiles : (source image scratch image' scratch' : List ℕ) (r : Answer) → CompileCalled source image scratch r image' scratch'
       → CompileEnds source image scratch r image' × (scratch' ≡ replicate (length scratch) 0)
+  -- of `run` (demand 1b, 1d)
   pub runs : (q : Request) (m : Machine) (k : Clock) (memory memory' : List ℕ) (r : Report) → RunCalled q m k memory r memory' → RunEnds q m k memory r memory'

@@ -23,7 +23,7 @@ pub record RunCalled (q : Request) (m : Machine) (k : Clock) (memory : List ℕ)
   pub reported : r ≡ reportOf q k (runDef q (machine.state m memory))
   pub left : memory' ≡ runDef q (machine.state m memory) .state .image
 
--- a list of calls of `run` from a state, "each going on from what the last one left, nobody else writing to it", and what it comes to.
+-- a list of calls of `run` from a state, each on the state that the one before it left, and what it comes to (R10, demand 3e).
 -- The clock is the service's, which others' runs move on too: each call may have any
 pub data Calls : machine.State → Total → Type 0 where
   none : {s : machine.State} → Calls s (noRun s)
@@ -36,18 +36,19 @@ pub data Calls : machine.State → Total → Type 0 where
 abbrev pub delivered : Program → List ℕ → ℕ → ℕ → ℕ → Compiled
 delivered p image entry words globals = record { program = p; image = image; entry = entry; words = words; globals = globals }
 
+-- what is claimed of an accepted source
 pub record Accepted (source image : List ℕ) (entry words globals : ℕ) : Type 0 where
   -- the program that the source is, by the definition; its image, entry and counts are those that the call gave
   pub program : Program
   pub defined : compileDef source ≡ Result.accepted (delivered program image entry words globals)
-  -- "its image loaded, its integers and array cells, A, B, C, X and keys given any values, and the machine set at the entry"
+  -- of every machine that is loaded with it, the statement about every list of calls (demand 3a to 3j)
   pub agrees : (σ : State) (s : machine.State) → Loaded (delivered program image entry words globals) σ s → Agrees program σ (Calls s)
-  -- every list of requests is such a list of calls, with what its runs come to,
+  -- every list of requests is such a list of calls, with what its runs come to (demand 3e),
   pub called : (qs : List Request) (s : machine.State) → Calls s (runsDef qs s)
-  -- and such machines exist: the image itself is such a memory, and so it is with any values for the variables
+  -- and such machines exist: the image itself is such a memory, and so it is with any values for the variables (demand 3k)
   pub loads : Loads (delivered program image entry words globals)
 
--- "Suppose a recipe is accepted"
+-- DEMAND 3 of every call of `compile` that accepts (demand 3a)
 unfoldable pub Demand3Called : Type 0
 Demand3Called =
     (source image scratch image' scratch' : List ℕ) (r : Answer) → CompileCalled source image scratch r image' scratch'

@@ -7,13 +7,12 @@ use machine::run;
 ghost use Rattle.compiler.specs.DemandThree.{RunCalled, Demand3Called};
 ghost use Rattle.compiler.specs.DemandOne.{Demand1Called};
 
-// "A recipe handed in, whatever its bytes, comes back as an image or as one of the numbered failures. A machine state handed in comes back stepped, halted
-// or failed."
+// Whatever is handed to `compile` or `run` comes back as one of the ways to end that are set down (demand 1a to 1e).
 pub fn demand_one_called()
     ensures { λ r. ⌜ Demand1Called ⌝ }
 {}
 
-// Machine and meaning agree, on whole lists of runs.
+// Machine and meaning agree, on whole lists of runs (demand 3a to 3k).
 pub fn demand_three_called()
     ensures { λ r. ⌜ Demand3Called ⌝ }
 {}

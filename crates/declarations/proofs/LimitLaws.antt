@@ -252,7 +252,7 @@ unfolding emitAll emitWord withWord withLiterals literalsOf
 emit-pool f e [] = refl
 emit-pool f e (w ∷ ws) = emit-pool f (emitWord f e w) ws ∙ literals-one (e .pool) w ws
 
--- ---- Words laid in a sector, and judged
+-- ---- Words emitted in a sector, and judged
 
 pub record Exact (f : Bases) (a b : Emitted) (ws : List Sym) (sectors : ℕ) : Type 0 where
   pub all : b ≡ emitAll f a ws

@@ -44,7 +44,7 @@ abbrev pub allocationOf : Allocation → List ℕ → layout.Allocation
 allocationOf s table =
     record { scope = record { names = liveNames (s .names) table; level = Level.outer; taken = s .taken }; next = s .output .next; pool = poolOf s; ends = endsOf (s .sectors); array = s .array }
 
--- what a global is declared under: its word is from '200 on
+-- what a global is declared under: its word is from '200 on (A3)
 abbrev pub globalScope : Allocation → Scope
 globalScope s = record { names = s .names; level = 0; taken = s .taken; base = firstGlobal }
 
@@ -79,9 +79,10 @@ pub record SectorClosed (s : Allocation) (image : List ℕ) (s' : Allocation) (i
 abbrev pub poolEnd : Output → ℕ
 poolEnd output = output .next + length (emitted.literalsIn (output .pool))
 
--- failure 13 by the words in use, an array's size and element 0 of the next array; 12 or 13 by the place of the open sector too
+-- failure 13 by the words in use, an array's size and element 0 of the next array (F13)
 unfoldable pub spaceNumber : ℕ → ℕ → ℕ
 spaceNumber words array = whether (leb words array) (λ _. 0) (λ _. 13)
 
+-- 12 by the place of the open sector, or 13 (F12, F13)
 unfoldable pub sectorNumber : ℕ → ℕ → ℕ → ℕ
 sectorNumber words closed array = whether (leb words (sectorWords * (closed + 2))) (λ _. spaceNumber words array) (λ _. 12)

@@ -90,7 +90,7 @@ module _ (source : List ℕ) where
   abbrev pub afterToken : {A : Type 0} → ℕ → (ℕ → Got A) → ℕ → Got A
   afterToken kind part at = andThen (expect kind source at) (λ _ n. part n)
 
-  -- an array's size
+  -- an array's size (D6)
   abbrev pub sizeAt : symbols.Names → ℕ → Got ℕ
   sizeAt names at = parseInRange source names (λ v. leb (sizeOf v) 8192) at
 

@@ -1,4 +1,4 @@
--- Procedures and the main body: what is laid before their statements, and after.
+-- Procedures and the main body: what is emitted before their statements, and after.
 use Prim.Native.Nat.{ℕ, suc, _+_, _*_}
 use mathlib.Core.Path.{_≡_}
 use mathlib.Core.List.{List, [], _∷_, foldl}
@@ -49,7 +49,7 @@ pub record InnerScope (s : Allocation) (table : List ℕ) (name : Name) (inner :
   pub base : inner .base ≡ s .output .next
   pub kept : take (7 * s .names) table' ≡ take (7 * s .names) table
 
--- what is laid of a procedure before its statements: its locals, its word in sector 0, and its link
+-- what is emitted of a procedure before its statements: its locals, its word in sector 0, and its link (W16, A3)
 abbrev pub framed : layout.Allocation → Name → List (Name × Item) → List ℕ → emission.Emitted
 framed st name locals image =
     let link = layout.linkOf st name locals in
@@ -103,7 +103,7 @@ pub record ProgramEmitted (plan : SectorEnds) (image : List ℕ) (s : Allocation
   pub pool : emitted.literalsIn (output .pool) ≡ layout.finish (layout.allocated (p .declarations)) (p .main) .pool
   pub laid : image' ≡ emitProgram (endOf plan) p image
 
--- THE WHOLE PROGRAM, with the lengths of what was lent on every path. A table that has no room for 512 names is 2 at 0, before anything is read
+-- THE WHOLE PROGRAM, with the lengths of what was lent on every path. A table that has no room for 512 names is 2 at 0, before anything is read (F2)
 unfoldable pub programOn : List ℕ → List ℕ → Got Program
 programOn source table = whether (leb tableWords (length table)) (λ _. programIn source) (λ _. failed 2 0)
 

@@ -32,7 +32,7 @@ treeItem Item.Integer = tree.Item.integer
 treeItem (Item.Constant v) = tree.Item.constant v
 treeItem (Item.Compconstant v) = tree.Item.compconstant v
 
--- a new name's failure, with the limit of its word, or 0
+-- a new name's failure, with the limit of its word, or 0 (F8, F10, J7)
 unfoldable pub nameFailure : List ℕ → symbols.Scope → ℕ → Token → ℕ
 nameFailure source scope limit t =
     whether (is Kinds.name t)
@@ -44,7 +44,7 @@ nameFailure source scope limit t =
 abbrev pub tableWords : ℕ
 tableWords = 3584
 
--- the table has room for the 512 names that may be alive, and no more are; each word is a name's
+-- the table has room for the 512 names that may be alive, and no more are (D16); each word is a name's
 pub record Room (s : Scope) (table : List ℕ) : Type 0 where
   pub long : tableWords ≤ length table
   pub few : s .names ≤ symbols.mostNames

@@ -12,7 +12,7 @@ use Rattle.grammar.specs.Parse.Got.{got}
 use Rattle.grammar.specs.Cells.{parseConstant}
 use Rattle.layout.specs.Emission.{stored}
 
--- an initial value after so many of them
+-- an initial value after so many of them (F14)
 unfoldable pub initialValue : List ℕ → Names → ℕ → ℕ → ℕ → Got ℕ
 initialValue source names size count at =
     andThen (parseConstant source names at) (λ v next.

@@ -1,4 +1,4 @@
-// What stands before a procedure's statements: its locals and its link.
+// What stands before a procedure's statements: its locals and its link (W16).
 ghost use mathlib.Core.Path.{_≡_};
 ghost use Prim.Native.Nat.{_+_};
 ghost use lib.ListN.{set};

@@ -1,4 +1,4 @@
-// The globals: their names, and their words in sector 0.
+// The globals: their names, and their words in sector 0 (A3).
 ghost use mathlib.Core.Path.{_≡_};
 ghost use Prim.Native.Nat.{_+_, _*_, _≤_};
 ghost use lib.ListN.{length, set};

@@ -131,7 +131,7 @@ fn symbol_of(scope: Scope, item: Item) -> Symbol
     }
 }
 
-// The item's word, if it takes one; and how many it takes.
+// The item's word, if it takes one; and how many it takes (A3, W16).
 fn emit_item(image: &mut [u16], at: usize, item: Item) -> u16
     ensures { λ r. ⌜ (now (image .exit) ≡ stored (now (image .entry)) at (itemValues (treeItem item)))
         × (r ≡ length (itemValues (treeItem item))) × (r ≤ 1) ⌝ }

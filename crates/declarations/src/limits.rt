@@ -1,4 +1,4 @@
-// Failures 12 and 13.
+// Failures 12 and 13, and where they are judged (J8).
 ghost use mathlib.Core.Path.{_≡_};
 ghost use Prim.Native.Nat.{_+_, _≤_};
 ghost use Rattle.parser.specs.Answers.{partOf};
@@ -18,7 +18,7 @@ use source::token_at;
 
 const SECTOR_WORDS: usize = addresses::SECTOR_WORDS as usize;
 
-// 13 where code and pending pool, with an array of a size, reach above element 0 of the next array.
+// 13 where code and pending pool, with an array of a size, reach above element 0 of the next array (F13).
 pub fn space_limit(output: Output, size: u16, array: u16) -> u16
     ensures { λ r. ⌜ r ≡ spaceNumber (poolEnd output + size) array ⌝ }
 {
@@ -29,7 +29,7 @@ pub fn space_limit(output: Output, size: u16, array: u16) -> u16
     failures::MEMORY_FULL
 }
 
-// 12 where code and pending pool reach above their sector, the one after so many closed ones; then 13.
+// 12 where code and pending pool reach above their sector, the one after so many closed ones (F12); then 13.
 pub fn sector_limit(output: Output, closed: usize, array: u16) -> u16
     requires { ⌜ closed ≤ 30 ⌝ }
     ensures { λ r. ⌜ r ≡ sectorNumber (poolEnd output) closed array ⌝ }

@@ -22,7 +22,7 @@ use source::Token;
 use source::kind::NAME;
 use source::token_at;
 
-// The names that may be alive, X uncounted.
+// The names that may be alive, X uncounted (D16).
 const LIVE_NAMES: usize = 512;
 
 // Goes on after a token if a failure's number is 0, else fails with it there.
@@ -35,7 +35,7 @@ pub fn pass_at(t: Token, number: u16) -> Part
     fail_at(t, number)
 }
 
-// A new name's failure, with the limit of its word, or 0.
+// A new name's failure, with the limit of its word, or 0 (F8, F10, J7).
 fn name_failure(source: &[u8], table: &[u16], scope: Scope, limit: u16, at: usize) -> u16
     requires { ⌜ 7 * scope .names ≤ length (now table) ⌝ }
     ensures { λ r. ⌜ r ≡ nameFailure (now (source .entry)) (scopeOf scope (now (table .entry))) limit (tokenAt (now (source .entry)) at) ⌝ }
@@ -68,7 +68,7 @@ pub fn new_name(source: &[u8], table: &[u16], scope: Scope, limit: u16, at: usiz
     }
 }
 
-// At a declared name that takes a word: 11 where sector 0 has none left.
+// At a declared name that takes a word: 11 where sector 0 has none left (F11).
 pub fn name_limit(scope: Scope) -> u16
     ensures { λ r. ⌜ r ≡ nameLimit (scopeOf scope []) ⌝ }
 {

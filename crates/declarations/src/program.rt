@@ -124,7 +124,7 @@ fn declarations(
     }
 }
 
-// The main body, and the last pool after it.
+// The main body, and the last pool after it (W17, A8).
 fn main_body(
     source: &[u8],
     table: &[u16],
@@ -216,7 +216,7 @@ fn whole(source: &[u8], table: &mut [u16], image: &mut [u16], plan: SectorEnds) 
     }
 }
 
-// A program whose length was tested. The pools' addresses are the plan's. A table without room for 512 names is refused, as short scratch is.
+// A program whose length was tested. The pools' addresses are the plan's. A table without room for 512 names is refused, as short scratch is (F2).
 pub fn program(
     source: &[u8],
     table: &mut [u16],

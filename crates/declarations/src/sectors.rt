@@ -50,7 +50,7 @@ pub fn end_of(plan: SectorEnds, sectors: SectorEnds) -> u16
     ends[closed]
 }
 
-// 12 or 13, or 13 where no sector follows.
+// 12 or 13, or 13 where no sector follows (F12, F13).
 fn next_limit(allocation: Allocation) -> u16
     requires { ⌜ SoundAllocation allocation ⌝ }
     ensures { λ r. ⌜ r ≡ followLimit (allocationOf allocation []) (sectorLimit (allocationOf allocation [])) ⌝ }
@@ -67,7 +67,7 @@ fn next_limit(allocation: Allocation) -> u16
     failures::MEMORY_FULL
 }
 
-// The open sector closed, its pool after its code.
+// The open sector closed, its pool after its code (A8, A9).
 fn close(image: &mut [u16], allocation: Allocation) -> Allocation
     requires { ⌜ SoundAllocation allocation × (allocation .sectors .count + 1 ≤ 30) ⌝ }
     ensures { λ r. ⌜ SectorClosed allocation (now (image .entry)) r (now (image .exit)) (Declaration.nextSector ∷ []) ⌝ }

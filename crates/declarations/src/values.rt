@@ -33,7 +33,7 @@ fn fill(image: &mut [u16], at: usize, count: usize)
     }
 }
 
-// An initial value after so many of them.
+// An initial value after so many of them (F14).
 fn initial_value(
     source: &[u8],
     table: &[u16],

@@ -1,4 +1,4 @@
--- What instructions do to A and C, as document 01's "Order table" has it. The semantics of the language acts through these.
+-- What instructions do to A and C. The semantics of the language acts through these.
 use Prim.Native.Nat.{ℕ, _+_, _-_, _%_}
 use mathlib.Core.Bool.{cond}
 use lib.Dec.{eqb, leb}
@@ -7,11 +7,11 @@ use Rattle.word.specs.Arithmetic.{flagged, bit, sumOf, differenceOf}
 use Rattle.word.specs.Bytes.{icaOf, calOf, carOf, icrOf, iclOf}
 use Rattle.word.specs.Shift.{shiftOf}
 use Rattle.instruction.specs.Opcode.{LDA, ANA, ERA, ADD, SUB}
-use Rattle.instruction.specs.Slot.{CRA, CMA, TCA, CHS, SSP, SSM, CSA, CAR, CAL, ICL, AOA, ACA, ICR, ICA}
+use Rattle.instruction.specs.Slot.{ACA, AOA, CAL, CAR, CHS, CMA, CRA, CSA, ICA, ICL, ICR, SSM, SSP, TCA}
 use Rattle.effect.specs.declared.Registers.{Registers}
 use Rattle.effect.specs.Registers.{withA, withFlagged}
 
--- with the operand v. "ADD, SUB, AOA and ACA are modulo 65,536; C becomes 1 exactly on signed overflow, else 0", "The rest leave C"
+-- with the operand v: only ADD and SUB set C (I6, I9, I13)
 unfoldable pub operateOf : ℕ → ℕ → Registers → Registers
 operateOf opcode v r =
     cond (eqb opcode LDA) (withA r v)
@@ -21,7 +21,7 @@ operateOf opcode v r =
     (cond (eqb opcode SUB) (withFlagged r (differenceOf (r .a) v))
     r))))
 
--- the generic instructions on A and C
+-- the generic instructions on A and C: only CSA, AOA and ACA set C (I9, I10, I13)
 unfoldable pub unaryOf : ℕ → Registers → Registers
 unaryOf slot r =
     cond (eqb slot CRA) (withA r 0)
@@ -30,7 +30,7 @@ unaryOf slot r =
     (cond (eqb slot CHS) (withA r ((r .a + 32768) % 65536))
     (cond (eqb slot SSP) (withA r (r .a % 32768))
     (cond (eqb slot SSM) (withA r (r .a % 32768 + 32768))
-    -- "CSA copies the sign to C and clears it"
+    -- the sign goes to C, and + takes its place (I10)
     (cond (eqb slot CSA) (withFlagged r (flagged (r .a % 32768) (leb 32768 (r .a))))
     (cond (eqb slot CAR) (withA r (carOf (r .a)))
     (cond (eqb slot CAL) (withA r (calOf (r .a)))
@@ -41,5 +41,6 @@ unaryOf slot r =
     (cond (eqb slot ICA) (withA r (icaOf (r .a)))
     r)))))))))))))
 
+-- a shift of A, with C (I11, I12)
 abbrev pub shiftedOf : ℕ → ℕ → Registers → Registers
 shiftedOf kind n r = withFlagged r (shiftOf kind n (r .a) (r .c))

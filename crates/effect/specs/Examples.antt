@@ -1,5 +1,5 @@
--- The effects by example: every generic instruction and every shift by each amount, on words whose signs, bytes and bits differ. The results were worked out
--- bit by bit from document 01's "Order table", apart from the definitions. Decided by computation.
+-- The effects by example: every generic instruction (I10) and every shift by each amount (I11, I12), on words whose signs, bytes and bits differ.
+-- The results were worked out bit by bit from what each instruction is to do, apart from the definitions. Decided by computation.
 use Prim.Native.Nat.{ℕ}
 use mathlib.Core.Path.{_≡_, refl}
 use mathlib.Core.Bool.{Bool, true, false}
@@ -8,7 +8,7 @@ use Rattle.word.specs.Arithmetic.{flagged, sumOf, differenceOf}
 use Rattle.word.specs.Shift.{LGR, ARS, ARR, LGL, ALS, ALR, signChanges, shiftOf}
 use Rattle.word.specs.declared.Flagged.{Flagged}
 use Rattle.instruction.specs.Opcode.{LDA, ANA, ERA, ADD, SUB}
-use Rattle.instruction.specs.Slot.{SKP, NOP, SRC, SSC, SS1, SS2, SS3, SS4, SSS, SSR, SZE, SNZ, SPL, SMI, SLZ, SLN, CRA, CMA, TCA, CHS, SSP, SSM, CSA, CAR, CAL, ICL, AOA, ACA, ICR, ICA}
+use Rattle.instruction.specs.Slot.{ACA, AOA, CAL, CAR, CHS, CMA, CRA, CSA, ICA, ICL, ICR, NOP, SKP, SLN, SLZ, SMI, SNZ, SPL, SRC, SS1, SS2, SS3, SS4, SSC, SSM, SSP, SSR, SSS, SZE, TCA}
 use Rattle.effect.specs.declared.Registers.{Registers}
 use Rattle.effect.specs.declared.Switches.{Switches}
 use Rattle.effect.specs.Effects.{operateOf, unaryOf}
@@ -47,7 +47,7 @@ each-unary : map (λ row. map (unaryOf (row .0)) before) unaries ≡ map {B = Li
 unfolding unaryOf sumOf
 each-unary = refl
 
--- ---- Instructions with an operand
+-- ---- Instructions with an operand (I6, I9)
 
 abbrev operands : List (ℕ × ℕ × List Registers)
 operands =

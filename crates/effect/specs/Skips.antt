@@ -1,12 +1,12 @@
--- Which generic instructions skip the next word, as document 01's "Order table" names them.
+-- Which generic instructions skip the next word (I10).
 use Prim.Native.Nat.{ℕ, _%_}
 use mathlib.Core.Bool.{Bool, true, false, cond, not}
 use lib.Dec.{eqb, leb, ltb}
-use Rattle.instruction.specs.Slot.{SKP, SRC, SSC, SS1, SS2, SS3, SS4, SSS, SSR, SZE, SNZ, SPL, SMI, SLZ, SLN}
+use Rattle.instruction.specs.Slot.{SKP, SLN, SLZ, SMI, SNZ, SPL, SRC, SS1, SS2, SS3, SS4, SSC, SSR, SSS, SZE}
 use Rattle.effect.specs.declared.Registers.{Registers}
 use Rattle.effect.specs.declared.Switches.{Switches}
 
--- the sense switches, which document 01 calls keys
+-- whether a sense switch is set
 abbrev pub anySwitch : Switches → Bool
 anySwitch s = cond (s .one) true (cond (s .two) true (cond (s .three) true (s .four)))
 

@@ -17,7 +17,7 @@ use Rattle.emitter.specs.declared.Pool.{Pool}
 use Rattle.emitter.specs.declared.Output.{Output}
 use Rattle.emitter.proofs.Lays.{emit-append}
 
--- no order has a literal of its own, and no name's address depends on the pool
+-- a literal is its operand's, whatever the opcode, and no name's address depends on the pool
 literal-same : (c d : ℕ) (o : Operand) → literalOf (Sym.memory c o) [] ≡ literalOf (Sym.memory d o) []
 unfolding literalOf
 literal-same c d (Operand.named i) = refl

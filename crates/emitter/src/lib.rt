@@ -34,7 +34,7 @@ const SECTOR_WORDS: u32 = addresses::SECTOR_WORDS as u32;
 // As many words as a sector has: no sector holds a longer pool.
 const POOL_WORDS: usize = addresses::SECTOR_WORDS as usize;
 
-// The literal pool of the open sector, in order of first use; the first `count` words count.
+// The literal pool of the open sector, in order of first use (A7); the first `count` words count.
 pub struct Pool {
     pub words: [u16; POOL_WORDS],
     pub count: usize,
@@ -136,7 +136,7 @@ fn emit_word(image: &mut [u16], output: Output, word: u16) -> Output
     }
 }
 
-// The word of an instruction on an address: LDX has its tag set, and an address outside of sector 0 its sector bit.
+// The word of an instruction on an address: LDX has its tag set, and an address outside of sector 0 its sector bit (I2, A10).
 fn reference(opcode: u16, indirect: bool, address: u32) -> u16
     ensures { λ r. ⌜ r ≡ map.reference opcode indirect address ⌝ }
 {
@@ -187,7 +187,7 @@ pub fn emit_jump(image: &mut [u16], output: Output, target: u16) -> Output
     emit_word(image, output, reference(JMP, false, target as u32))
 }
 
-// A return through a link.
+// A return through a link (W16).
 pub fn emit_return(image: &mut [u16], output: Output, link: u16) -> Output
     ensures { λ r. ⌜ Puts output (now (image .entry)) r (now (image .exit)) (map.reference opcodes.JMP true link) ⌝ }
 {
@@ -235,7 +235,7 @@ fn with_operand(pool: Pool, operand: Operand) -> Pool
     }
 }
 
-// An instruction on an integer, a constant or a literal.
+// An instruction on an integer, a constant or a literal (W1).
 pub fn emit_memory(
     image: &mut [u16],
     context: Context,
@@ -256,7 +256,7 @@ pub fn emit_memory(
     )
 }
 
-// What reaches a cell: an array element's subscript to X, unless it is there.
+// What reaches a cell: an array element's subscript to X, unless it is there (W2).
 pub fn emit_reach(image: &mut [u16], context: Context, output: Output, cell: Cell) -> Output
     ensures { λ r. ⌜ Emits (basesOf context) output (now (image .entry)) r (now (image .exit)) (reachWords (treeCell cell)) ⌝ }
 {
@@ -292,7 +292,7 @@ pub fn emit_instruction(
     }
 }
 
-// An instruction on a cell, with what reaches it.
+// An instruction on a cell, with what reaches it (W1, W2).
 pub fn emit_cell(
     image: &mut [u16],
     context: Context,

@@ -30,7 +30,7 @@ forward-length p at y z =
     let d = ap length (p .cut at z) ∙ append-length (p .before at) (Sym.jump z ∷ p .rest at) in
     c ∙ sym d
 
--- "test, first part, JMP end, second part": the test and the first part are w
+-- both parts with the jump between them (W10); the condition and the first part are w
 abbrev pub branchWords : (ℕ → ℕ → List Sym) → WordsAt → WordsAt
 branchWords w t at = let next = suc (at + length (w at 0)) in w at next ⧺ Sym.jump (next + length (t next)) ∷ t next
 

@@ -1,4 +1,4 @@
--- The words after a relation's CAS.
+-- The words after a relation's CAS (W7).
 use Prim.Native.Nat.{ℕ, _+_, _<_}
 use mathlib.Core.Path.{_≡_, refl, sym, ap, _∙_}
 use mathlib.Core.Bool.{Bool, true, false}
@@ -36,7 +36,7 @@ module _ {a b : Emitted} {place : ℕ} where
   pub same-kind : {k kind : ℕ} → kind ≡ k → Related k a b place → Related kind a b place
   same-kind e h = rw e h
 
-  -- `<>` is CAS SKP, `<` is CAS NOP
+  -- `<>` and `<`: SKP or NOP, and the jump
   pub not-equal : AlwaysForwardJump a b (λ at z. Sym.generic SKP ∷ Sym.jump z ∷ []) place → Related Kinds.notEqual a b place
   unfolding find relationWords controls controlWords controlWord
   not-equal h = by-row Kinds.notEqual Relation.notEqual refl (λ f. same-forward (λ at z. refl) (h .forward f))
@@ -57,12 +57,12 @@ last-kind {a} {b} {place} {kind} e n l g m h =
     go f false q = absurd (none-some q)
 
 module _ {a b c : Emitted} {place : ℕ} where
-  -- `<=` is CAS, JMP false, NOP
+  -- `<=`: the jump, then NOP
   pub at-most : AlwaysForwardJump a b (λ at z. Sym.jump z ∷ []) place → c ≡ withWord b (getD tableOf NOP 0) → Related Kinds.atMost a c place
   unfolding find relationWords controls controlWords controlWord _⧺_
   at-most h e = by-row Kinds.atMost Relation.atMost refl (λ f. same-forward (λ at z. refl) (before-rest (h .forward f) (generic f NOP e)))
 
-  -- `=` is CAS SKP SKP, `>=` is CAS NOP SKP
+  -- `=` and `>=`: SKP or NOP, then SKP and the jump
   pub equal : b ≡ withWord a (getD tableOf SKP 0) → AlwaysForwardJump b c (λ at z. Sym.generic SKP ∷ Sym.jump z ∷ []) place → Related Kinds.equal a c place
   unfolding find relationWords controls controlWords controlWord _⧺_
   equal e h = by-row Kinds.equal Relation.equal refl (λ f. same-forward (λ at z. refl) (after-words (generic f SKP e) (h .forward f)))
@@ -71,7 +71,7 @@ module _ {a b c : Emitted} {place : ℕ} where
   unfolding find relationWords controls controlWords controlWord _⧺_
   at-least e h = by-row Kinds.atLeast Relation.atLeast refl (λ f. same-forward (λ at z. refl) (after-words (generic f NOP e) (h .forward f)))
 
--- `>` is CAS, JMP *+3, NOP
+-- `>`: a jump past all, NOP, and the jump
 module _ {a b c d : Emitted} {past place : ℕ} {image : List ℕ} where
   pub greater : AlwaysForwardJump a b (λ at z. Sym.jump z ∷ []) past → c ≡ withWord b (getD tableOf NOP 0) → AlwaysForwardJump c d (λ at z. Sym.jump z ∷ []) place → image ≡ filled (d .image) past (d .next)
       → Related Kinds.greater a (record { image = image; next = d .next; pool = d .pool }) place

@@ -274,7 +274,7 @@ module _ {source : List ℕ} {t : Token} {n k i : ℕ} (turn : Turn source t n k
       rw (q, turn .slot, turn .is .words, turn .come)
       (sym (store-last l place w (toCome source (k - 1) (t .next)) (unaryWords (turn .unary)) (e ∙ turn .is .width) (rw (← turn .come) h)))
 
--- ---- What is laid
+-- ---- What is emitted
 
 module _ {a : Emitted} {end : ℕ} (ws : List Sym) (e : end ≡ min lastAddress (a .next + length ws)) (h : a .next ≤ lastAddress) where
   pub past-end : end ≡ lastAddress → Always a (record { image = a .image; next = end; pool = a .pool }) (λ _. ws)

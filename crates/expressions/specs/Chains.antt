@@ -52,7 +52,7 @@ comparisonOf source names t =
     asOneOf tests t (λ test. got (Comparison.test test) (t .next)) λ _.
     failAt t 6
 
--- its words, by the address of the first and where the condition goes if it fails
+-- its words, by where the first one stands and where the condition goes if it fails (W7, W8)
 unfoldable pub relationWords : Relation → ℕ → ℕ → List Sym
 relationWords r at failing = controlWords (at + length (controls r)) failing (controls r)
 
@@ -60,6 +60,6 @@ unfoldable pub comparisonWords : Comparison → ℕ → ℕ → List Sym
 comparisonWords (Comparison.relation r c) at failing = cellWords CAS c ⧺ relationWords r (at + length (cellWords CAS c)) failing
 comparisonWords (Comparison.test t) at failing = Sym.generic (testSlot t) ∷ Sym.jump failing ∷ []
 
--- "`.ELSE` expression"
+-- the second part of a conditional expression, with its `.ELSE` (E5)
 unfoldable pub elseExpr : List ℕ → (ℕ → Got Expr) → ℕ → Got Expr
 elseExpr source inner at = andThen (expect Kinds.ELSE source at) (λ _ next. inner next)

@@ -26,7 +26,7 @@ unaryWordsAt source at = unariesWords (unariesOf source at)
 abbrev pub placedBefore : ℕ → List Sym → List ℕ → List ℕ
 placedBefore end ws image = sets image (end - length ws) (values ws)
 
--- how many instructions a unary word has
+-- how many instructions a unary word has (W5)
 unfoldable pub widthOf : ℕ → ℕ
 widthOf kind = whether (eqb kind Kinds.ABS) (λ _. 2) (λ _. 1)
 

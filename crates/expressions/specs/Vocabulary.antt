@@ -6,14 +6,14 @@ use lib.ListN.{getD}
 use Rattle.prelude.specs.Choice.{whether, find, given}
 use Rattle.source.specs.Kinds
 use Rattle.word.specs.Shift.{LGR, ARS, ARR, LGL, ALS, ALR}
-use Rattle.instruction.specs.Slot.{SZE, SNZ, SPL, SMI, SLN, SLZ, SSC, SRC, SS1, SS2, SS3, SS4, SSS, SSR, TCA, SSP, SSM, CHS, CSA, CMA, ICL, CAL, ICA, ICR, CAR, AOA, ACA}
+use Rattle.instruction.specs.Slot.{ACA, AOA, CAL, CAR, CHS, CMA, CSA, ICA, ICL, ICR, SLN, SLZ, SMI, SNZ, SPL, SRC, SS1, SS2, SS3, SS4, SSC, SSM, SSP, SSR, SSS, SZE, TCA}
 use Rattle.tree.specs.Tree.{Unary}
 
 -- 1 more than the number of a kind's row, or 0 where there is none
 unfoldable pub numberIn : {A : Type 0} → List (ℕ × A) → (A → ℕ) → ℕ → ℕ
 numberIn table number kind = given (find (eqb kind) table) (λ row. suc (number (row .1))) (λ _. 0)
 
--- the last instruction of a unary word; only `.ABS` has another, SPL, before it
+-- the last instruction of a unary word; only `.ABS` has another, SPL, before it (W5)
 unfoldable pub lastSlot : Unary → ℕ
 lastSlot Unary.addc = ACA
 lastSlot Unary.inc = AOA
@@ -30,7 +30,7 @@ lastSlot Unary.icright = ICR
 lastSlot Unary.cright = CAR
 lastSlot Unary.abs = TCA
 
--- the code's table, from `.ZERO` on
+-- the code's table, from `.ZERO` on (W5, W6, W8, W9)
 abbrev pub wordTable : List ℕ
 wordTable =
     SZE ∷ 0 ∷ 0

@@ -49,7 +49,7 @@ pub struct JumpAnswer {
     pub hole: u16,
 }
 
-// A cell that was read, under an order.
+// A cell that was read, under an instruction.
 fn emit_read(
     image: &mut [u16],
     context: Context,
@@ -98,7 +98,7 @@ fn bracketed(
     }
 }
 
-// A call, after the procedure's name: its argument, if it has one, then the jump through the procedure word.
+// A call, after the procedure's name: its argument, if it has one, then the jump through the procedure word (W14).
 pub fn call(
     source: &[u8],
     table: &[u16],
@@ -170,7 +170,7 @@ fn term(
     }
 }
 
-// Unary words, a term, then any operations; the unary words' instructions follow the term's.
+// Unary words, a term, then any operations; the unary words' instructions follow the term's (W4).
 fn chain(
     source: &[u8],
     table: &[u16],
@@ -237,7 +237,7 @@ pub fn condition(
     comparison(source, table, image, context, next, after_value)
 }
 
-// `.IF` condition `.THEN` expression `.ELSE` expression, after the `.IF`.
+// A conditional expression, after its `.IF` (E5, W10).
 fn choice(
     source: &[u8],
     table: &[u16],
@@ -287,7 +287,7 @@ fn choice(
     )
 }
 
-// `.ELSE` expression, and the jump past it filled in.
+// Its `.ELSE` and second part, and the jump past it filled in.
 fn alternative(
     source: &[u8],
     table: &[u16],

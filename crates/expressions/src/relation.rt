@@ -23,7 +23,7 @@ pub fn emit_hole(image: &mut [u16], output: Output) -> JumpAnswer
     }
 }
 
-// A single test, by its slot.
+// A single test, by its slot (W8, W9).
 pub(crate) fn emit_test(image: &mut [u16], output: Output, slot: usize) -> JumpAnswer
     ensures { λ r. ⌜ AlwaysDecides (λ at z. Sym.generic slot ∷ Sym.jump z ∷ []) output (now (image .entry)) (now (image .exit)) r ⌝ }
 {
@@ -57,7 +57,7 @@ fn emit_at_most(image: &mut [u16], output: Output) -> JumpAnswer
     }
 }
 
-// The words of a relation after its CAS, by its token's kind.
+// The words of a relation after its CAS, by its token's kind (W7).
 pub(crate) fn emit_relation(image: &mut [u16], output: Output, kind: u16) -> JumpAnswer
     ensures { λ r. ⌜ DecidesRelation kind output (now (image .entry)) (now (image .exit)) r ⌝ }
 {

@@ -1,4 +1,4 @@
-// Unary words. They stand before the term and their instructions after it, the last word's first, so they are read twice:
+// Unary words. They stand before the term and their instructions after it, the last word's first (W4), so they are read twice:
 // to go past them, and to emit them from the end.
 use crate::vocabulary::unary;
 use emitter::LAST_ADDRESS;

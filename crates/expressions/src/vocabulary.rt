@@ -1,4 +1,4 @@
-// The words that stand for an instruction: unary words, shift words, tests, operators and relations.
+// The words that stand for an instruction: unary words, shift words, tests, operators and relations (W5 to W9).
 use instruction::opcode;
 use instruction::slot;
 use source::kind;

@@ -21,7 +21,7 @@ use Rattle.grammar.specs.Statements.{parseOutermost}
 
 -- ---- Declared names
 
--- a new name, with the limit of its word; "513th name alive (X uncounted)" is 10. All are judged before the next token is looked at
+-- a new name: 8, 10 and the limit of its word, in this order, all judged before the next token is looked at (J7, F8, F10)
 unfoldable pub newName : List ℕ → Scope → ℕ → Token → Got Name
 newName source scope limit t =
     whether (is Kinds.name t)
@@ -36,27 +36,28 @@ newName source scope limit t =
 pub data ItemKeyword : Type 0 where
   integer constant compconstant : ItemKeyword
 
+-- all that a local may be (D11)
 abbrev pub itemKeywords : List (ℕ × ItemKeyword)
 itemKeywords = (Kinds.INTEGER, ItemKeyword.integer) ∷ (Kinds.CONSTANT, ItemKeyword.constant) ∷ (Kinds.COMPCONSTANT, ItemKeyword.compconstant) ∷ []
 
--- the limit at an item's name: "Compconstants take none" of the words
+-- the limit at an item's name: a compconstant takes no word (D4)
 unfoldable pub itemLimit : ItemKeyword → Scope → ℕ
 itemLimit ItemKeyword.integer scope = nameLimit scope
 itemLimit ItemKeyword.constant scope = nameLimit scope
 itemLimit ItemKeyword.compconstant scope = 0
 
--- "Array size: the absolute value as signed"
+-- the size that an array's constant gives: how far it is from 0, taken as signed (D6)
 unfoldable pub sizeOf : ℕ → ℕ
 sizeOf v = whether (leb v 32767) (λ _. v) (λ _. 65536 - v)
 
 module _ (source : List ℕ) where
-  -- "name=constant", after the name
+  -- `=` and a constant, after the name (D4)
   unfoldable pub parseValue : Scope → Name → (ℕ → Item) → ℕ → Got (Name × Item)
   parseValue scope name item at =
       andThen (expect Kinds.equal source at) (λ _ n.
       andThen (parseConstant source (scope .names) n) (λ v next. got (name, item v) next))
 
-  -- "`.INTEGER` names; `.CONSTANT` and `.COMPCONSTANT` name=constant"
+  -- an item from after its name: an integer has no more (D3), a constant and a compconstant have a value (D4)
   unfoldable pub itemFrom : ItemKeyword → Scope → Name → ℕ → Got (Name × Item)
   itemFrom ItemKeyword.integer scope name at = got (name, Item.integer) at
   itemFrom ItemKeyword.constant scope name at = parseValue scope name Item.constant at
@@ -67,7 +68,7 @@ module _ (source : List ℕ) where
   parseItem keyword scope at =
       andThen (newName source scope (itemLimit keyword scope) (tokenAt source at)) (itemFrom keyword scope)
 
-  -- "lists are parted by commas", "declarations each ended by `;`": some list, each of its items added to what is declared before it
+  -- a list with commas (D3 to D5) and its closing `;` (D1), each of its items added to what is declared before it
   unfoldable pub parseList : {A : Type 0} → (A → ℕ → Got A) → A → ℕ → Got A
   parseList more done at =
       andThen (separated source Kinds.comma (more done) more at) (λ longer n.
@@ -75,12 +76,12 @@ module _ (source : List ℕ) where
 
   -- ---- Locals
 
-  -- "Locals are integers, constants and compconstants; a local hides a global."
+  -- one more local, under the names of those before it (D11, D15)
   unfoldable pub parseLocal : Scope → ItemKeyword → List (Name × Item) → ℕ → Got (List (Name × Item))
   parseLocal scope keyword done at =
       andThen (parseItem keyword (foldl declareItem scope done) at) (λ item next. got (snoc done item) next)
 
-  -- any lists of locals, each ended by `;`
+  -- any lists of locals, each with its `;` (D9, D11)
   unfoldable pub parseLocals : Scope → ℕ → Got (List (Name × Item))
   parseLocals scope at =
       repeat source (λ done n.
@@ -89,19 +90,19 @@ module _ (source : List ℕ) where
 
   -- ---- Declarations of the program
 
-  -- one more integer, constant or compconstant
+  -- one more integer, constant or compconstant (D3, D4, D15)
   unfoldable pub parseGlobal : ItemKeyword → List Declaration → ℕ → Got (List Declaration)
   parseGlobal keyword ds at =
       let scope = allocated ds .scope in
       andThen (parseItem keyword scope at) (λ item next. got (snoc ds (Declaration.item (item .0) (item .1))) next)
 
-  -- "more initial values than size" is 14, at the first value too many
+  -- one more initial value; 14 at the first that the size has no room for (D7, J9, F14)
   unfoldable pub parseInitial : Names → ℕ → List ℕ → ℕ → Got (List ℕ)
   parseInitial names size values at =
       andThen (parseConstant source names at) (λ v next.
       whether (ltb (length values) size) (λ _. got (snoc values v) next) (λ _. failAt (tokenAt source at) 14))
 
-  -- "optionally with (constants)"
+  -- the initial values in their brackets, or none (D5)
   unfoldable pub parseInitials : Names → ℕ → ℕ → Got (List ℕ)
   parseInitials names size at =
       let t = tokenAt source at in
@@ -110,7 +111,7 @@ module _ (source : List ℕ) where
       andThen (expect Kinds.rightParenthesis source n) (λ _ next. got values next)))
       (λ _. got [] at)
 
-  -- "name[constant], optionally with (constants)"; the array's space is judged at the `]`
+  -- an array: its name, its size, its initial values (D5, D6); its space is judged at the `]` (J8), and its name is known at the end (D15)
   unfoldable pub parseArray : List Declaration → ℕ → Got (List Declaration)
   parseArray ds at =
       let st = allocated ds in
@@ -121,12 +122,12 @@ module _ (source : List ℕ) where
       within (spaceLimit st (sizeOf v)) closing (andThen (parseInitials (st .scope .names) (sizeOf v) l) (λ values next.
       got (snoc ds (Declaration.array name (sizeOf v) values)) next))))))
 
-  -- a declaration that is judged at its last token, then `;`; "before it moves", and even if the `;` is missing
+  -- a declaration that is judged at its last token, then `;`: even if that is missing, and at a next sector before the move (J8)
   unfoldable pub parseLimited : List Declaration → Declaration → Token → Got (List Declaration)
   parseLimited ds d last =
       within (declarationLimit (allocated ds) d) last (andThen (expect Kinds.semicolon source (last .next)) (λ _ next. got (snoc ds d) next))
 
-  -- "name; `.BEGIN` locals and statements `.END`", after `.PROCEDURE`; its name is taken from the start and known after the `.END`
+  -- a procedure, after `.PROCEDURE` (D9); its name is taken from the start (J7) and known after the `.END` (D15)
   unfoldable pub parseProcedure : List Declaration → Bool → ℕ → Got (List Declaration)
   parseProcedure ds accumulator at =
       let scope = allocated ds .scope in
@@ -138,11 +139,11 @@ module _ (source : List ℕ) where
       andThen (expect Kinds.END source j) (λ last _.
       parseLimited ds (Declaration.procedure name accumulator locals body) last))))))
 
-  -- "with `.ACCUMULATOR` before it if it may be a term"
+  -- an accumulator procedure, after `.ACCUMULATOR` (D10)
   unfoldable pub parseAccumulator : List Declaration → ℕ → Got (List Declaration)
   parseAccumulator ds at = andThen (expect Kinds.PROCEDURE source at) (λ _ n. parseProcedure ds true n)
 
-  -- "Declarations: `.INTEGER` ..; `.CONSTANT` and `.COMPCONSTANT` ..; `.ARRAY` ..; `.NEXTSECTOR`. `.PROCEDURE` .."
+  -- each declaration by the keyword that begins it (D1); a next sector has no name (D8)
   abbrev pub declarationKeywords : List (ℕ × (List Declaration → Token → Got (List Declaration)))
   declarationKeywords =
       (Kinds.INTEGER, λ ds t. parseList (parseGlobal ItemKeyword.integer) ds (t .next)) ∷
@@ -153,7 +154,7 @@ module _ (source : List ℕ) where
       (Kinds.PROCEDURE, λ ds t. parseProcedure ds false (t .next)) ∷
       (Kinds.ACCUMULATOR, λ ds t. parseAccumulator ds (t .next)) ∷ []
 
-  -- any declarations, each read under the allocation after those before it
+  -- any declarations, each read under the allocation after those before it; the first token that begins none ends them (D1, D2)
   unfoldable pub parseDeclarations : ℕ → Got (List Declaration)
   parseDeclarations at =
       repeat source (λ ds n.

@@ -12,8 +12,8 @@ use Rattle.grammar.specs.Statements.{parseStmt}
 use Rattle.grammar.specs.Program.{parseProgram}
 use Rattle.grammar.specs.Computed.{computed}
 
--- the first recipe of document 01
-first-recipe :
+-- the first program (K1)
+first-program :
     parseProgram (bytes ".BEGIN .INTEGER A; A = 2140 + 1875 + 960 .END")
     ≡ got
     (record {
@@ -23,7 +23,7 @@ first-recipe :
     })
     45
 unfolding computed
-first-recipe = refl
+first-program = refl
 
 -- it holds one empty statement
 empty-program : parseProgram (bytes ".BEGIN .END") ≡ got (record { declarations = []; main = Stmts.one Stmt.empty }) 11
@@ -104,12 +104,12 @@ every-condition :
 unfolding computed
 every-condition = refl
 
--- an operation after `.ELSE` belongs to the second part
+-- an operation after `.ELSE` belongs to the second part (E5)
 conditional : expression (bytes ".IF .CSET .THEN @ .ELSE .ZERO + 1") ≡ got (Expr.choose (Cond.bare Bare.cset) (Expr.chain [] Term.accumulator []) (Expr.chain [] Term.zero (Operation.binary Operator.add (number 1) ∷ []))) 33
 unfolding computed
 conditional = refl
 
--- the minus: operator after a whole cell, else a constant's sign
+-- the minus: operator after a cell, else a numeral's sign (T12)
 minus-operator : expression (bytes "X-1") ≡ got (fromX [] (less 1 ∷ [])) 3
 unfolding computed
 minus-operator = refl

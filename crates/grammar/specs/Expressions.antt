@@ -24,7 +24,7 @@ pub data TermStart : Type 0 where
   call : ℕ → TermStart
 
 module _ (source : List ℕ) (names : Names) where
-  -- "Term: cell, `@` (accumulator A), `.ZERO`, (expression), or a call of an accumulator procedure."
+  -- the first token of a term (E6, J5)
   unfoldable pub termStart : Token → Got TermStart
   termStart t =
       whether (is Kinds.at t) (λ _. got TermStart.accumulator (t .next)) λ _.
@@ -33,19 +33,19 @@ module _ (source : List ℕ) (names : Names) where
       given (nameAs source names asFunction t) (λ p. got (TermStart.call p) (t .next)) λ _.
       andThen (cellStart source names t) (λ c next. got (TermStart.cell c) next)
 
-  -- an expression and `)`, after the `(`
+  -- an expression and `)`, after the `(` (E6)
   unfoldable pub parseBracketed : (ℕ → Got Expr) → ℕ → Got Expr
   parseBracketed expr at =
       andThen (expr at) (λ e n.
       andThen (expect Kinds.rightParenthesis source n) (λ _ next. got e next))
 
-  -- "A call is a procedure's name, or name(expression)": after the name, what it is without and with an argument
+  -- a call from after its name, given what it is without and with an argument (E6, S9)
   unfoldable pub parseCall : {A : Type 0} → (ℕ → Got Expr) → A → (Expr → A) → ℕ → Got A
   parseCall expr alone with at =
       let t = tokenAt source at in
       whether (is Kinds.leftParenthesis t) (λ _. andThen (parseBracketed expr (t .next)) (λ e next. got (with e) next)) (λ _. got alone at)
 
-  -- a term from after its first token, with the parser of the expressions in it
+  -- a term from after its first token, with the parser of the expressions in it (E6)
   unfoldable pub termFrom : (ℕ → Got Expr) → TermStart → ℕ → Got Term
   termFrom inner (TermStart.cell c) at = andThen (cellFrom source names c at) (λ c next. got (Term.cell c) next)
   termFrom inner TermStart.accumulator at = got Term.accumulator at
@@ -55,25 +55,25 @@ module _ (source : List ℕ) (names : Names) where
 
   -- ---- Expressions
 
-  -- "unary words"
+  -- any unary words (E4)
   unfoldable pub parseUnaries : ℕ → Got (List Unary)
   parseUnaries at =
       repeat source (λ done n.
       let t = tokenAt source n in
       asOneOf unaries t (λ u. some (got (snoc done u) (t .next))) (λ _. none)) [] at
 
-  -- "(`+ - .AND .NEV`) cell or shift word with a constant amount 1 to 15", added to those before it
+  -- one operation, added to those before it: an operator and a cell, or a shift word and its amount (E7)
   unfoldable pub operationOf : List Operation → Token → Option (Got (List Operation))
   operationOf done t =
       asOneOf operators t (λ o. some (andThen (parseCell source names (t .next)) (λ cell next. got (snoc done (Operation.binary o cell)) next))) λ _.
       asOneOf shifts t (λ o. some (andThen (parseInRange source names (between 1 15) (t .next)) (λ n next. got (snoc done (Operation.shift o n)) next))) λ _.
       none
 
-  -- "then any of .."
+  -- any operations; where one may stand, a minus is the operator (E4, T11)
   unfoldable pub parseOperations : ℕ → Got (List Operation)
   parseOperations at = repeat source (λ done n. operationOf done (operatorAt source n)) [] at
 
-  -- "unary words, a term, then any of .."
+  -- unary words, a term and operations (E4)
   unfoldable pub parseChain : (ℕ → Got Expr) → ℕ → Got Expr
   parseChain inner at =
       andThen (parseUnaries at) (λ us n.
@@ -81,21 +81,21 @@ module _ (source : List ℕ) (names : Names) where
       andThen (termFrom inner start m) (λ term k.
       andThen (parseOperations k) (λ os next. got (Expr.chain us term os) next))))
 
-  -- "expression relation cell; expression with `.ZERO .NONZERO .PLUS .MINUS .ODD .EVEN`": after the expression
+  -- a condition from after its expression: a relation and a cell, or a test of A (E8); else 6 (J6)
   unfoldable pub condFrom : Expr → Token → Got Cond
   condFrom e t =
       asOneOf relations t (λ r. andThen (parseLoneCell source names (t .next)) (λ cell next. got (Cond.relation r e cell) next)) λ _.
       asOneOf tests t (λ test. got (Cond.test test e) (t .next)) λ _.
       failAt t 6
 
-  -- "or alone `.CSET .NOTC .SENSE1` to `.SENSE4 .ANYKEY .NOKEY`"
+  -- a condition: a test that stands alone, or one that begins with an expression (E8)
   unfoldable pub parseCond : (ℕ → Got Expr) → ℕ → Got Cond
   parseCond expr at =
       let t = tokenAt source at in
       asOneOf bares t (λ b. got (Cond.bare b) (t .next)) λ _.
       andThen (expr at) (λ e n. condFrom e (tokenAt source n))
 
-  -- "`.IF` condition `.THEN` expression `.ELSE` expression", after the `.IF`
+  -- a conditional expression, after its `.IF`; all three parts are one level deeper (E5, S13)
   unfoldable pub parseChoice : (ℕ → Got Expr) → ℕ → Got Expr
   parseChoice inner at =
       andThen (parseCond inner at) (λ c n.
@@ -104,14 +104,14 @@ module _ (source : List ℕ) (names : Names) where
       andThen (expect Kinds.ELSE source k) (λ _ l.
       andThen (inner l) (λ f next. got (Expr.choose c e f) next)))))
 
-  -- an expression at a level too many: 9 "at its first token", unless that fails by a lower number
+  -- an expression at a level too many: 9 at its first token, unless that fails by a lower number (J10, F9)
   unfoldable pub tooDeepExpr : Token → Got Expr
   tooDeepExpr t =
       whether (is Kinds.IF t) (λ _. failAt t 9) λ _.
       asOneOf unaries t (λ _. failAt t 9) λ _.
       andThen (termStart t) (λ _ _. failAt t 9)
 
-  -- "an expression in an expression adds one to the nesting; 32 pass": with `left` levels left, its own among them
+  -- an expression with `left` levels left, its own among them; those within it have one less (E5, S11, S13)
   unfoldable pub parseExpr : ℕ → ℕ → Got Expr
   parseExpr zero at = tooDeepExpr (tokenAt source at)
   parseExpr (suc left) at =

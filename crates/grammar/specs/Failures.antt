@@ -21,11 +21,12 @@ resultOf (failed n at) = (n, at)
 -- a source, with the number and offset of its failure, or 0 and 0 if it parses
 abbrev rows : List (String × ℕ × ℕ)
 rows =
-    -- text ended
+    -- the source ends too early (T13)
     ("", 6, 0) ∷
     (" \n ", 6, 3) ∷
     (".BEGIN .INTEGER A; A = 1 ", 6, 25) ∷
-    -- the minus: with no digit; a constant after a subscript's integer, the operator after a lone cell
+    -- the minus (T10 to T12): with no digit; a numeral's sign after a subscript's integer, the operator after a lone cell; a sign after
+    -- a left side, a size, a call, a test and an inner `.END`
     (".BEGIN @=X---1 .END", 6, 11) ∷
     (".BEGIN @=X-32768 .END", 5, 11) ∷
     (".BEGIN @=- 1 .END", 6, 9) ∷
@@ -35,22 +36,29 @@ rows =
     (".BEGIN .FOR #=X-40000 .DO .END", 6, 15) ∷
     (".BEGIN .WHEN X=X-40000 .THEN .END", 6, 16) ∷
     (".BEGIN X-40000=1 .END", 5, 8) ∷
-    -- tokens taken longest
+    (".BEGIN .ARRAY T[3-40000]; .END", 5, 17) ∷
+    (".BEGIN .PROCEDURE P; .BEGIN .END; P-40000 .END", 5, 35) ∷
+    (".BEGIN .WHEN X .ZERO-40000 .THEN .END", 5, 20) ∷
+    (".BEGIN .BEGIN .END-40000 .END", 5, 18) ∷
+    -- tokens as long as they can be (T4, T6)
     (".BEGIN .WHEN .SENSE12 .THEN .END", 6, 20) ∷
     (".BEGIN .WHEN .SENSE5 .THEN .END", 4, 13) ∷
     (".BEGIN @='18 .END", 6, 11) ∷
     (".BEGIN @=X .LGL15 .END", 0, 0) ∷
-    -- the first six characters count
+    -- the first six characters count (T7)
     (".BEGIN .INTEGER ABCDEFG, ABCDEFH; .END", 8, 25) ∷
     (".BEGIN .INTEGER ABCDE1, ABCDE2; ABCDE2XX=1 .END", 0, 0) ∷
-    -- the leftmost token; at one token the lower number; names count alike
+    -- the first token that fails, by its lowest number; a name that stands where none may; what follows the last `.END` (J2, J3, J6, J11)
     (".BEGIN Y=1 * .END", 7, 7) ∷
     (".BEGIN X=1 * .END", 4, 11) ∷
     (".BEGIN X=1 40000 .END", 5, 11) ∷
     (".BEGIN X=1 Y .END", 6, 11) ∷
     (".BEGIN .END .END", 6, 12) ∷
-    -- declared names and their kinds
+    (".BEGIN .END !", 4, 12) ∷
+    (".BEGIN .END 40000", 5, 12) ∷
+    -- declared names and their kinds (D13 to D15, J5)
     (".BEGIN .INTEGER X; .END", 8, 16) ∷
+    (".BEGIN .PROCEDURE P; .BEGIN .INTEGER X; .END; .END", 8, 37) ∷
     (".BEGIN .CONSTANT A=A; .END", 7, 19) ∷
     (".BEGIN .ARRAY A[3](A); .END", 7, 19) ∷
     (".BEGIN .CONSTANT A=3; .PROCEDURE P; .BEGIN .CONSTANT A=A; .END; .END", 0, 0) ∷
@@ -69,6 +77,7 @@ rows =
     (".BEGIN .PROCEDURE P; .BEGIN .ARRAY T[1]; .END; .END", 6, 28) ∷
     (".BEGIN .ACCUMULATOR .INTEGER A; .END", 6, 20) ∷
     (".BEGIN .NEXTSECTOR .END", 6, 19) ∷
+    (".BEGIN .ARRAY T[8192],U[7600]; .NEXTSECTOR; .NEXTSECTOR .END", 13, 44) ∷
     (".BEGIN .INTEGER ; .END", 6, 16) ∷
     (".BEGIN .INTEGER A B; .END", 6, 18) ∷
     (".BEGIN .INTEGER A;; .INTEGER B; .END", 6, 20) ∷
@@ -91,7 +100,7 @@ failures : map (λ row. resultOf (parseProgram (bytes (row .0)))) rows ≡ map (
 unfolding computed
 failures = refl
 
--- ---- What a name may be used as: one row for each use, in it the failure of an integer, a constant, a compconstant, an array, a procedure,
+-- ---- What a name may be used as (J5): one row for each use, in it the failure of an integer, a constant, a compconstant, an array, a procedure,
 -- an accumulator procedure, an undeclared name and X
 
 abbrev used : String → String → List ℕ
@@ -112,7 +121,7 @@ uses :
 unfolding computed
 uses = refl
 
--- ---- Nesting: 32 levels pass; the 33rd fails at its first token, unless that token fails by a lower number; an empty statement adds none
+-- ---- Nesting: level 32 passes, 33 fails at its first token (S11) unless that fails by a lower number (J10); an empty statement has no level (S12)
 
 abbrev times : ℕ → List ℕ → List ℕ
 times zero bs = []
@@ -124,7 +133,7 @@ bracketed n inside = resultOf (parseExpr (times n (bytes "(") ++ (bytes inside +
 abbrev compound : ℕ → String → ℕ × ℕ
 compound n inside = resultOf (parseProgram (bytes ".BEGIN " ++ (times n (bytes ".BEGIN ") ++ (bytes inside ++ (times n (bytes " .END") ++ bytes " .END")))))
 
--- the argument of a call that is a statement is at that statement's level, that of a call that is a term one further in
+-- the argument of a call that is a statement is at that statement's level, that of a call that is a term one further in (S13)
 abbrev called : ℕ → ℕ × ℕ
 called n = resultOf (parseProgram (bytes ".BEGIN .ACCUMULATOR .PROCEDURE F; .BEGIN .END; " ++ (times n (bytes "F(") ++ (bytes "1" ++ (times n (bytes ")") ++ bytes " .END")))))
 
@@ -140,7 +149,7 @@ nesting :
 unfolding computed
 nesting = refl
 
--- ---- 512 live names pass, the 513th is 10, and 8 goes first; a procedure's own name is among those that its locals see
+-- ---- 512 live names pass, the 513th is 10, and 8 goes first; a procedure's own name is among those that its locals see (D16, J7)
 
 abbrev scopeOf : ℕ → Scope
 scopeOf n = record { names = replicate n (bytes "A", record { level = Level.outer; symbol = Symbol.unknown }); level = Level.outer; taken = 0 }
@@ -155,7 +164,7 @@ live-names :
 unfolding computed
 live-names = refl
 
--- ---- 8,192 bytes pass, one more is 3 at 0
+-- ---- 8,192 bytes pass, one more is 3 at 0 (F3)
 
 length-limit : resultOf (parseProgram (times 8192 (bytes " "))) ∷ resultOf (parseProgram (times 8193 (bytes " "))) ∷ [] ≡ (6, 8192) ∷ (3, 0) ∷ []
 unfolding computed

@@ -14,11 +14,12 @@ pub data Got (A : Type 0) : Type 0 where
   got : A → ℕ → Got A
   failed : ℕ → ℕ → Got A
 
+-- what comes after a part; a failure is the answer, whatever stands behind it (J2)
 unfoldable pub andThen : {A B : Type 0} → Got A → (A → ℕ → Got B) → Got B
 andThen (got tree next) f = f tree next
 andThen (failed n at) f = failed n at
 
--- the only place where a token fails
+-- the only place where a token fails: by the lowest number (J3), at its first byte (J4)
 unfoldable pub failAt : {A : Type 0} → Token → ℕ → Got A
 failAt t n = failed (failureAt t n) (t .at)
 
@@ -29,7 +30,7 @@ within limit t g = whether (eqb limit 0) (λ _. g) (λ _. failAt t limit)
 abbrev pub is : ℕ → Token → Bool
 is kind t = eqb (t .kind) kind
 
--- the token of a kind; "token not allowed there (names count alike), or text ended" is 6
+-- the token of a kind; any other is 6, a name and the end of the source too (J6, F6)
 unfoldable pub expect : ℕ → List ℕ → ℕ → Got Token
 expect kind source at =
     let t = tokenAt source at in

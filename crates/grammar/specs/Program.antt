@@ -13,7 +13,7 @@ use Rattle.grammar.specs.Parse.Got.{got, failed}
 use Rattle.grammar.specs.Statements.{parseOutermost}
 use Rattle.grammar.specs.Declarations.{parseDeclarations}
 
--- "statements parted by `;`, `.END`", after the declarations; nothing but blanks may follow
+-- the main body, after the declarations (D1): its limits are judged at the `.END` (J8), and the source must end behind that (J11)
 unfoldable pub parseMain : List ℕ → List Declaration → ℕ → Got Program
 parseMain source ds at =
     andThen (parseOutermost source (allocated ds .scope .names) at) (λ main n.
@@ -21,7 +21,7 @@ parseMain source ds at =
     within (mainLimit (allocated ds) main) last (andThen (expect Kinds.endOfSource source m) (λ _ next.
     got (record { declarations = ds; main = main }) next))))
 
--- "Program: `.BEGIN`, declarations each ended by `;`, statements parted by `;`, `.END`." "text over 8,192 bytes" is 3, at 0, before anything is read
+-- a program (D1); a source that is too long is 3 at 0, before anything is read (F3, J1)
 unfoldable pub parseProgram : List ℕ → Got Program
 parseProgram source =
     whether (leb (length source) 8192)

@@ -10,7 +10,7 @@ use Rattle.instruction.specs.Table.{row, generics, tableOf}
 use Rattle.instruction.specs.Decode.{decodeDef, decodeIn}
 use Rattle.instruction.specs.Encode.{Encodes}
 
--- a word is unknown exactly if the table has no instruction for it
+-- a word is unknown exactly if no instruction has it (I14)
 pub record UnknownExactly (w : ℕ) : Type 0 where
   pub no-instruction : decodeDef w ≡ Unknown → (i : Instruction) → Encodes i w → ⊥
   pub unknown : ((i : Instruction) → Encodes i w → ⊥) → decodeDef w ≡ Unknown

@@ -1,4 +1,4 @@
--- What instruction a word is, as document 01's "Order table" has it.
+-- What instruction a word is.
 use Prim.Native.Nat.{ℕ, _-_, _*_, _/_, _%_}
 use mathlib.Core.Bool.{Bool, true, false, cond}
 use mathlib.Core.List.{List, [], _∷_}
@@ -10,18 +10,20 @@ use Rattle.instruction.specs.declared.Instruction.the-variants.{Memory, 
 use Rattle.instruction.specs.Opcode.{IRS, LDX}
 use Rattle.instruction.specs.Table.{Row, generics}
 
--- a generic instruction is the one whose word stands in the table
+-- the row that has the word; where none has, it is no instruction (I14)
 unfoldable pub findWord : ℕ → List Row → Instruction
 findWord w [] = Unknown
 findWord w (r ∷ rs) = cond (eqb (r .word) w) (Generic (r .slot)) (findWord w rs)
 
+-- a generic instruction is a word of the table (I10)
 unfoldable pub genericOf : ℕ → Instruction
 genericOf w = findWord w generics
 
--- "Shifts, plus 64-n, n 1 to 15: LGR 040400, ARS 040500, ARR 040600, LGL 041400, ALS 041500, ALR 041600"
+-- the six kinds are '404 to '406 and '414 to '416 (I11)
 abbrev pub isShift : ℕ → Bool
 isShift kind = cond (ltb kind LGR) false (cond (leb kind ARR) true (cond (ltb kind LGL) false (leb kind ALR)))
 
+-- the low six bits are 64 less the amount; with 48 or less there is no such shift (I11, I14)
 unfoldable pub shiftOf : ℕ → Instruction
 shiftOf w = cond (ltb (w % 64) 49) Unknown (cond (isShift (w / 64)) (Shift (w / 64) (64 - w % 64)) Unknown)
 
@@ -31,19 +33,21 @@ flagAt w bit = eqb (w / bit % 2) 1
 abbrev pub opcodeOf : ℕ → ℕ
 opcodeOf w = w / 0o2000 % 16
 
+-- the parts of a memory-reference word (I1)
 abbrev pub memoryWith : Bool → ℕ → Instruction
 memoryWith tag w = Memory (opcodeOf w) (leb 0o100000 w) tag (flagAt w 0o1000) (w % 512)
 
--- "indirect '100000, tag '40000, code times '2000, sector bit '1000, nine address bits": JMP to IRS, and "LDX 15 with its tag set", whose tag adds no X
+-- the opcodes JMP to IRS, and LDX with its tag only (I1, I2), which adds no X (I3); the others are no instruction's (I14)
 unfoldable pub memoryOf : ℕ → Instruction
 memoryOf w =
     cond (leb (opcodeOf w) IRS) (memoryWith (flagAt w 0o40000) w)
     (cond (eqb (opcodeOf w) LDX) (cond (flagAt w 0o40000) (memoryWith false w) Unknown) Unknown)
 
--- opcode 0: a shift or a generic instruction
+-- opcode 0 is a shift where the top two bits are 01, else a generic instruction
 abbrev pub decodeBy : (ℕ → Instruction) → ℕ → Instruction
 decodeBy generic w = cond (eqb (opcodeOf w) 0) (cond (eqb (w / 0o40000) 1) (shiftOf w) (generic w)) (memoryOf w)
 
+-- the instruction that a word is, or that it is none (I14)
 unfoldable pub decodeDef : ℕ → Instruction
 decodeDef w = decodeBy genericOf w
 

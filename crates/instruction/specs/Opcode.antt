@@ -1,4 +1,4 @@
--- The codes of the memory-reference instructions, as document 01's "Order table" has them.
+-- The opcodes of the memory-reference instructions (I2).
 use Prim.Native.Nat.{ℕ}
 
 abbrev pub JMP : ℕ

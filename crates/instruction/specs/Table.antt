@@ -1,7 +1,7 @@
--- The generic instructions, as document 01's "Order table" lists them.
+-- The generic instructions by their words (I10).
 use Prim.Native.Nat.{ℕ}
 use mathlib.Core.List.{List, [], _∷_}
-use Rattle.instruction.specs.Slot.{HLT, SKP, NOP, SRC, SSC, SS1, SS2, SS3, SS4, SSS, SSR, SZE, SNZ, SPL, SMI, SLZ, SLN, CRA, CMA, TCA, CHS, SSP, SSM, CSA, CAR, CAL, ICL, AOA, ACA, ICR, ICA}
+use Rattle.instruction.specs.Slot.{ACA, AOA, CAL, CAR, CHS, CMA, CRA, CSA, HLT, ICA, ICL, ICR, NOP, SKP, SLN, SLZ, SMI, SNZ, SPL, SRC, SS1, SS2, SS3, SS4, SSC, SSM, SSP, SSR, SSS, SZE, TCA}
 
 pub record Row : Type 0 where
   pub slot : ℕ

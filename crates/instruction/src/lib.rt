@@ -13,7 +13,7 @@ use word::shift::LGR;
 pub mod opcode;
 pub mod slot;
 
-// The generic instructions, each at its slot. A slot that none has holds 0.
+// The generic instructions (I10), each at its slot. A slot that none has holds 0.
 const TABLE: [u16; 64] = [
     0o000000, // HLT
     0o140100, // SSP
@@ -197,7 +197,7 @@ pub fn decode(table: &[u16; 64], w: u16) -> Instruction
     generic(table, w)
 }
 
-// The word of a memory-reference instruction; LDX is laid with its tag set.
+// The word of a memory-reference instruction (I1). For LDX it is asked for with its tag set.
 pub fn encode_memory(opcode: u16, indirect: bool, tag: bool, sector: bool, address: u16) -> u16
     ensures { λ r. ⌜ r ≡ memoryWord opcode indirect tag sector address ⌝ }
 {
@@ -208,7 +208,7 @@ pub fn encode_memory(opcode: u16, indirect: bool, tag: bool, sector: bool, addre
         + address % 512
 }
 
-// The word of a shift by n.
+// The word of a shift by n (I11).
 pub fn encode_shift(kind: u16, n: u16) -> u16
     ensures { λ r. ⌜ r ≡ shiftWord kind n ⌝ }
 {

@@ -1,4 +1,4 @@
-// The codes of the memory-reference instructions.
+// The opcodes of the memory-reference instructions (I2).
 pub const JMP: u16 = 0o1;
 
 pub const LDA: u16 = 0o2;

@@ -1,4 +1,4 @@
-// The slot of each generic instruction in the table, in the order of the paper.
+// The slot of each generic instruction in the table, in the order of specs/Slot.
 pub const HLT: usize = 0;
 
 pub const SKP: usize = 32;

@@ -16,7 +16,7 @@ pub record Allocation : Type 0 where
   pub ends : List ℕ
   pub array : ℕ
 
--- "Code starts at '1000", in sector 1. "Array bodies go down from word 16,382 (element 0 of the first is 16,383)"
+-- nothing yet: code begins at '1000, in sector 1, and element 0 of the first array is 16,383 (A4, A5)
 abbrev pub start : Allocation
 start = record { scope = record { names = []; level = Level.outer; taken = 0 }; next = firstCode; pool = []; ends = []; array = firstArray }
 
@@ -24,14 +24,15 @@ start = record { scope = record { names = []; level = Level.outer; taken = 0 }; 
 abbrev pub sectorOf : Allocation → ℕ
 sectorOf st = suc (length (st .ends))
 
--- "A procedure lays its local integers and constants, a zero link, its code": how many locals take a word, and the link's address
+-- how many locals of a procedure take a word (W16)
 unfoldable pub localWords : Allocation → Name → List (Name × Item) → ℕ
 localWords st name locals = foldl declareItem (localScope (st .scope) name) locals .taken
 
+-- the link's address, behind them (W16)
 abbrev pub linkOf : Allocation → Name → List (Name × Item) → ℕ
 linkOf st name locals = st .next + localWords st name locals
 
--- with words laid at the next address, after so many words that name nothing
+-- with words emitted at the next address, after so many words that name nothing; their literals go to the pool (A7)
 abbrev pub withCode : Allocation → Scope → ℕ → List Sym → Allocation
 withCode st scope others ws =
     record { scope = scope; next = after ws (st .next + others); pool = addedAll (st .pool) (literalsOf ws); ends = st .ends; array = st .array }
@@ -39,22 +40,24 @@ withCode st scope others ws =
 abbrev pub withScope : Allocation → Scope → Allocation
 withScope st scope = record { scope = scope; next = st .next; pool = st .pool; ends = st .ends; array = st .array }
 
--- the allocation after a declaration. After a procedure its name is known and its locals are gone
+-- the allocation after a declaration. An item takes the next word of the globals, if it takes one (A3)
 unfoldable pub allocate : Allocation → Declaration → Allocation
 allocate st (Declaration.item name item) = withScope st (declareItem (st .scope) (name, item))
+-- an array takes a word there too, and the next one's element 0 is lower by its size (A5)
 allocate st (Declaration.array name size values) =
     let scope = declare (st .scope) name (Symbol.array (record { number = st .scope .taken; size = size })) 1 in
     record { scope = scope; next = st .next; pool = st .pool; ends = st .ends; array = st .array - size }
+-- a procedure as well; its locals, link and code are next (A4). After it its name is known and its locals are gone (D15)
 allocate st (Declaration.procedure name accumulator locals body) =
     let scope = declare (st .scope) name (Symbol.procedure (st .scope .taken) accumulator) 1 in
     withCode st scope (suc (localWords st name locals)) (procedureWords body (linkOf st name locals))
--- "`.NEXTSECTOR` then moves to the sector of 512 after the one being filled, even if that one is empty or exactly full"
+-- on to the first word of the sector behind the one being filled, whatever that holds, with an empty pool (A9)
 allocate st Declaration.nextSector =
     record { scope = st .scope; next = sectorWords * suc (sectorOf st); pool = []; ends = st .ends ++ (st .next ∷ []); array = st .array }
 
 unfoldable pub allocated : List Declaration → Allocation
 allocated ds = foldl allocate start ds
 
--- the allocation after the main body
+-- the allocation after the main body, which comes last (A4)
 unfoldable pub finish : Allocation → Stmts → Allocation
 finish st main = withCode st (st .scope) 0 (mainWords main (st .next))

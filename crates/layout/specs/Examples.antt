@@ -14,7 +14,7 @@ use Rattle.layout.specs.Computed.{computed}
 use Rattle.layout.specs.Allocation.{Allocation, start, allocate}
 use Rattle.layout.specs.Limits.{spaceLimit, sectorLimit, declarationLimit, mainLimit}
 
--- two integers, two arrays, a literal, and the shortest expression and statement that lay a word
+-- two integers, two arrays, a literal, and an expression and a statement of one word
 abbrev i : Id
 i = Id.global 2
 
@@ -36,14 +36,14 @@ zero = Expr.chain [] Term.zero []
 abbrev clear : Stmt
 clear = Stmt.toA zero
 
--- `.NEG .INC @ + 5`
+-- `.NEG .INC @ + 5`: unary words ahead of the addition (K6)
 unary-first :
     exprWords (Expr.chain (Unary.neg ∷ Unary.inc ∷ []) Term.accumulator (Operation.binary Operator.add (Cell.plain five) ∷ [])) 0o1000
     ≡ Sym.generic AOA ∷ Sym.generic TCA ∷ Sym.memory ADD five ∷ []
 unfolding computed
 unary-first = refl
 
--- `A[I] = B[J]`
+-- `A[I] = B[J]`: the LDX of I behind the value (K6)
 element-to-element :
     stmtWords (Stmt.assign (Target.item a (Subscript.by (Operand.named i))) (Expr.chain [] (Term.cell (Cell.item b (Subscript.by (Operand.named j)))) [])) 0o1000
     ≡ Sym.memory LDX (Operand.named j) ∷ Sym.through LDA 1 ∷ Sym.memory LDX (Operand.named i) ∷ Sym.through STA 0 ∷ []
@@ -57,6 +57,7 @@ compared r = condWords (Cond.relation r (Expr.chain [] Term.accumulator []) (Cel
 abbrev cas : List Sym → List Sym
 cas ws = Sym.memory CAS five ∷ ws
 
+-- `<` has not the words of `>` (K6)
 every-relation :
     map compared (Relation.equal ∷ Relation.notEqual ∷ Relation.greater ∷ Relation.atLeast ∷ Relation.less ∷ Relation.atMost ∷ [])
     ≡ cas (Sym.generic SKP ∷ Sym.generic SKP ∷ Sym.jump 0o2000 ∷ []) ∷
@@ -98,7 +99,7 @@ pool-order : literalsOf (stmtWords (Stmt.assign (Target.item a (Subscript.by (Op
 unfolding computed
 pool-order = refl
 
--- a value once, at the place of its first use
+-- a value once, at the place of its first use (K6)
 shared : addedAll (7 ∷ []) (5 ∷ 7 ∷ 6 ∷ 5 ∷ []) ≡ 7 ∷ 5 ∷ 6 ∷ []
 unfolding computed
 shared = refl

@@ -1,9 +1,9 @@
--- THE MEMORY MAP of a program: what each of the 16,384 words is for. Document 01's "Words laid".
+-- THE MEMORY MAP of a program (group A of docs/REFERENCE.md): what each of the 16,384 words is for.
 --
 -- A map gives the word at each address its role, what it is for, and not only what it is at first: a word that nothing changes (code, pool, array words, procedure words), the home of a cell,
 -- a procedure's link, or a word that is not used. The image is the first value of each word; the theorems (crate memory_map) and the simulation (crate semantics) go by the roles.
 --
--- From the lowest address up, octal where it has a mark:
+-- From the lowest address up, octal where it has a `'`:
 --
 --     0              X
 --     1 to '177      not used
@@ -46,17 +46,18 @@ pub record Frame : Type 0 where
   pub poolAt : ℕ
   pub locals : ℕ
 
--- "the integer at word 0"; "Globals take one word each from '200"
+-- X is word 0, globals go from '200 on, locals from their procedure's first, literals from the pool's first (W1, A2, A3)
 unfoldable pub addressOf : Frame → Operand → ℕ
 addressOf f (Operand.named Id.x) = 0
 addressOf f (Operand.named (Id.global n)) = firstGlobal + n
 addressOf f (Operand.named (Id.local p n)) = f .locals + n
 addressOf f (Operand.literal v) = f .poolAt + indexOf (f .pool) v
 
--- "Sector 0 is addressed with the sector bit clear, all else with it set." "LDX 15 with its tag set"
+-- a memory reference: its sector bit is set if the address is not in sector 0 (A10), its tag if it is LDX (I2)
 unfoldable pub reference : ℕ → Bool → ℕ → ℕ
 reference opcode indirect address = memoryWord opcode indirect (eqb opcode LDX) (leb sectorWords address) (address % sectorWords)
 
+-- the word of each: indirect through an array's or procedure's word, and to a link (W2, W14, W16)
 unfoldable pub wordOf : Frame → Sym → ℕ
 wordOf f (Sym.generic slot) = getD tableOf slot 0
 wordOf f (Sym.shift kind n) = shiftWord kind n
@@ -74,7 +75,7 @@ pub data Role : Type 0 where
   link : ℕ → Role
   free : Role
 
--- its value in the image: "All other words are 0"
+-- its value in the image: a link is 0, and so is a word that is not used (W16, A6)
 abbrev pub initial : Role → ℕ
 initial (Role.fixed w) = w
 initial (Role.cell c v) = v
@@ -88,16 +89,16 @@ fixedWords f ws = map (λ w. Role.fixed (wordOf f w)) ws
 unfoldable pub placed : List Role → ℕ → List Role → List Role
 placed m at ws = take at m ++ (ws ++ drop (at + length ws) m)
 
--- the words that an item takes, with the id that is next
+-- the words that an item takes, with the id that is next: an integer one with 0, a constant one with its value (A3, W16)
 unfoldable pub itemWords : Id → Item → List Role
 itemWords i item = replicate (wordsTaken item) (Role.cell (CellId.named i) (itemValue item))
 
--- a procedure's locals, from the nth that takes a word on
+-- a procedure's locals, from the nth that takes a word on (W16)
 unfoldable pub localItems : ℕ → ℕ → List (Name × Item) → List Role
 localItems p n [] = []
 localItems p n (l ∷ ls) = let ws = itemWords (Id.local p n) (l .1) in ws ++ localItems p (n + length ws) ls
 
--- the elements of an array from a subscript on, "initial values from the lowest address"; "All other words are 0"
+-- the elements of an array from a subscript on, upward: its initial values, then zeros (D7, A5)
 unfoldable pub elements : ℕ → ℕ → ℕ → List ℕ → List Role
 elements number subscript zero values = []
 elements number subscript (suc n) [] = Role.cell (CellId.element number subscript) 0 ∷ elements number (suc subscript) n []
@@ -113,18 +114,19 @@ frame p locals = record { pool = p .pool; poolAt = p .poolAt; locals = locals }
 
 -- a declaration's words, under the allocation before it and the plan of its sector
 unfoldable pub placeDeclaration : Plan → Allocation → Declaration → List Role → List Role
+-- an item: the next word of the globals, if it takes one (A3)
 placeDeclaration p st (Declaration.item name item) m = placed m (firstGlobal + st .scope .taken) (itemWords (Id.global (st .scope .taken)) item)
--- "array word '40000 + address of element 0"; the body has the subscripts -size to -1
+-- an array: its word, with the tag and the address of element 0 (A3); its elements, -size to -1, end right below that (A5)
 placeDeclaration p st (Declaration.array name size values) m =
     let number = st .scope .taken in
     placed (placed m (firstGlobal + number) (Role.fixed (arrayTag + st .array) ∷ [])) (st .array - size) (elements number (65536 - size) size values)
--- "procedure word, the link's address"; "its local integers and constants, a zero link, its code, `JMP* link`"
+-- a procedure: its word, the link's address (A3); its locals, its link, its code (W16)
 placeDeclaration p st (Declaration.procedure name accumulator locals body) m =
     let number = st .scope .taken in
     let at = linkOf st name locals in
     placed (placed m (firstGlobal + number) (Role.fixed at ∷ [])) (st .next)
     (localItems number 0 locals ++ (Role.link number ∷ fixedWords (frame p (st .next)) (procedureWords body at)))
--- "The pool is laid at `.NEXTSECTOR`"
+-- the pool of the sector that is closed, behind its code (A8)
 placeDeclaration p st Declaration.nextSector m = placed m (st .next) (map Role.fixed (st .pool))
 
 -- each declaration under the allocation after those before it, and the plan of the sector that is filled then
@@ -136,11 +138,11 @@ placeAll plan st (d ∷ ds) m = placeAll plan (allocate st d) ds (placeDeclarati
 abbrev pub noPlan : Plan
 noPlan = record { pool = []; poolAt = 0 }
 
--- the plan of the sector that is closed at an allocation
+-- the plan of the sector that is closed at an allocation: the pool begins where the code ends (A8)
 abbrev pub planAt : Allocation → Plan
 planAt st = record { pool = st .pool; poolAt = st .next }
 
--- the plans of the sectors that are closed from an allocation on, in order: one at each `.NEXTSECTOR`, the last at the program's end
+-- the plans of the sectors that are closed from an allocation on, in order: one at each `.NEXTSECTOR`, the last at the program's end (A8)
 unfoldable pub plansFrom : Allocation → List Declaration → Stmts → List Plan
 plansFrom st [] main = planAt (finish st main) ∷ []
 plansFrom st (Declaration.item name item ∷ ds) main = plansFrom (allocate st (Declaration.item name item)) ds main
@@ -160,14 +162,14 @@ module _ (p : Program) where
   unfoldable pub planOf : ℕ → Plan
   planOf k = getD (plansFrom start (p .declarations) (p .main)) k noPlan
 
-  -- "X is .. the integer at word 0"; the main body and the last pool come last
+  -- X at word 0 (A2), then the declarations; the main body and the last pool come last (A4, A8); nothing else is used (A6)
   unfoldable pub mapOf : List Role
   mapOf =
       let plan = planOf (length (declared .ends)) in
       placed (placeAll planOf start (p .declarations) (placed (replicate memoryWords Role.free) 0 (Role.cell (CellId.named Id.x) 0 ∷ []))) (declared .next)
       (fixedWords (frame plan (declared .next)) (mainWords (p .main) (declared .next)) ++ map Role.fixed (plan .pool))
 
-  -- the image: the initial value of each word
+  -- the image: the initial value of each word (A1)
   unfoldable pub imageOf : List ℕ
   imageOf = map initial mapOf
 
@@ -175,7 +177,7 @@ module _ (p : Program) where
 abbrev pub mapAt : Program → ℕ → Role
 mapAt p k = getD (mapOf p) k Role.free
 
--- the one word where a cell stands
+-- the one word where a cell stands (demand 3g)
 pub record Home (p : Program) (i : CellId) : Type 0 where
   pub at : ℕ
   pub value : ℕ

@@ -1,4 +1,4 @@
--- The literal pool: "Explicit constants and compconstants as cells or subscripts go to the sector's pool, equal values sharing one word, in order of first use among the words laid".
+-- The pool of a sector: its literals, equal ones once, as they are first used (A7).
 use Prim.Native.Nat.{ℕ, suc}
 use mathlib.Core.List.{List, [], _∷_, _++_}
 use lib.ListN.{length}

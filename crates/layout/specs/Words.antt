@@ -1,15 +1,15 @@
--- Words laid: the symbolic words of each form, and the address after a form that is laid from an address on. Document 01's "Words laid".
+-- The words of each form, still symbolic (group W of docs/REFERENCE.md), and the address after a form that is emitted from an address on.
 use Prim.Native.Nat.{ℕ, suc, _+_}
 use mathlib.Core.List.{List, [], _∷_}
 use mathlib.Core.Option.{Option, some, none}
 use lib.ListN.{length}
 use Rattle.prelude.specs.Choice.{given}
 use Rattle.word.specs.Shift.{LGR, ARS, ARR, LGL, ALS, ALR}
-use Rattle.instruction.specs.Opcode.{LDA, ANA, STA, ERA, ADD, SUB, JST, CAS, IRS, LDX}
-use Rattle.instruction.specs.Slot.{HLT, SKP, NOP, SRC, SSC, SS1, SS2, SS3, SS4, SSS, SSR, SZE, SNZ, SPL, SMI, SLZ, SLN, CRA, CMA, TCA, CHS, SSP, SSM, CSA, CAR, CAL, ICL, AOA, ACA, ICR, ICA}
+use Rattle.instruction.specs.Opcode.{ADD, ANA, CAS, ERA, IRS, JST, LDA, LDX, STA, SUB}
+use Rattle.instruction.specs.Slot.{ACA, AOA, CAL, CAR, CHS, CMA, CRA, CSA, HLT, ICA, ICL, ICR, NOP, SKP, SLN, SLZ, SMI, SNZ, SPL, SRC, SS1, SS2, SS3, SS4, SSC, SSM, SSP, SSR, SSS, SZE, TCA}
 use Rattle.tree.specs.Tree.{Id, Array, Operand, Subscript, Cell, Unary, Operator, Shift, Operation, Relation, Test, Bare, Expr, Term, Cond, Target, Stmt, Stmts}
 
--- a word to be laid, its operand not yet an address: a generic instruction, by its slot; a shift; a memory reference to an integer, a constant or a literal;
+-- a word to be emitted, its operand not yet an address: a generic instruction, by its slot; a shift; a memory reference to an integer, a constant or a literal;
 -- one that goes indirectly through an array word or a procedure word, by its number among the globals; a jump to an address of code; a return through a link
 pub data Sym : Type 0 where
   generic : ℕ → Sym
@@ -25,27 +25,28 @@ unfoldable pub _⧺_ : List Sym → List Sym → List Sym
 _⧺_ [] ws = ws
 _⧺_ (v ∷ vs) ws = v ∷ (vs ⧺ ws)
 
--- the address after words that are laid from `at` on
+-- the address after words that are emitted from `at` on
 abbrev pub after : List Sym → ℕ → ℕ
 after ws at = at + length ws
 
 -- ---- Cells
 
--- "An array cell is `LDX subscript` (none for `#`)"
+-- of an element the LDX of its subscript, none for `#` (W2)
 unfoldable pub subscriptWords : Array → Subscript → List Sym
 subscriptWords a (Subscript.by o) = Sym.memory LDX o ∷ []
 subscriptWords a Subscript.hash = []
 
--- what reaches a cell
+-- what reaches a cell, before the instruction on it (W2)
 unfoldable pub reachWords : Cell → List Sym
 reachWords (Cell.plain o) = []
 reachWords (Cell.item a s) = subscriptWords a s
 
--- the instruction on it: "then the order with indirect"
+-- the instruction on it: with the operand's own address, or indirect through the array's word (W1, W2)
 unfoldable pub instructionWord : ℕ → Cell → Sym
 instructionWord opcode (Cell.plain o) = Sym.memory opcode o
 instructionWord opcode (Cell.item a s) = Sym.through opcode (a .number)
 
+-- `OP c`: what reaches the cell, then the instruction (W2)
 unfoldable pub cellWords : ℕ → Cell → List Sym
 cellWords opcode c = reachWords c ⧺ instructionWord opcode c ∷ []
 
@@ -61,7 +62,7 @@ plainWords [] = []
 plainWords (Plain.generic slot ∷ ps) = Sym.generic slot ∷ plainWords ps
 plainWords (Plain.shift kind n ∷ ps) = Sym.shift kind n ∷ plainWords ps
 
--- the instruction of a unary word; `.ABS` has two, of which the first skips
+-- the instruction of a unary word; `.ABS` has two, of which the first skips (W5)
 abbrev pub unaryPlain : Unary → Option Plain
 unaryPlain Unary.addc = some (Plain.generic ACA)
 unaryPlain Unary.inc = some (Plain.generic AOA)
@@ -78,21 +79,23 @@ unaryPlain Unary.icright = some (Plain.generic ICR)
 unaryPlain Unary.cright = some (Plain.generic CAR)
 unaryPlain Unary.abs = none
 
+-- its words: `.ABS` is SPL, TCA (W5)
 unfoldable pub unaryWords : Unary → List Sym
 unaryWords u = given (unaryPlain u) (λ p. plainWords (p ∷ [])) (λ _. Sym.generic SPL ∷ Sym.generic TCA ∷ [])
 
--- "Unary words follow the term, right to left"
+-- unary words, the last one written first (W4)
 unfoldable pub unariesWords : List Unary → List Sym
 unariesWords [] = []
 unariesWords (u ∷ us) = unariesWords us ⧺ unaryWords u
 
--- "Then, left to right, ADD SUB ANA ERA or the shift"
+-- the opcode of each operator (W6)
 unfoldable pub operatorOpcode : Operator → ℕ
 operatorOpcode Operator.add = ADD
 operatorOpcode Operator.subtract = SUB
 operatorOpcode Operator.and = ANA
 operatorOpcode Operator.nev = ERA
 
+-- the shift of each shift word (W6)
 unfoldable pub shiftKind : Shift → ℕ
 shiftKind Shift.lgr = LGR
 shiftKind Shift.ars = ARS
@@ -104,21 +107,23 @@ shiftKind Shift.alr = ALR
 abbrev pub shiftPlain : Shift → ℕ → Plain
 shiftPlain s n = Plain.shift (shiftKind s) n
 
+-- an operation: the operator's instruction on its cell, or the shift by its amount (W6)
 unfoldable pub operationWords : Operation → List Sym
 operationWords (Operation.binary o c) = cellWords (operatorOpcode o) c
 operationWords (Operation.shift s n) = plainWords (shiftPlain s n ∷ [])
 
+-- operations, from left to right (W4)
 unfoldable pub operationsWords : List Operation → List Sym
 operationsWords [] = []
 operationsWords (o ∷ os) = operationWords o ⧺ operationsWords os
 
--- "Call: argument, then `JST*` through the procedure word"
+-- the JST of a call, indirect through the procedure's word (W14)
 abbrev pub callWord : ℕ → Sym
 callWord p = Sym.through JST p
 
 -- ---- Conditions
 
--- "Single tests, in the order above: SZE SNZ SPL SMI SLN SLZ SSC SRC SS1 to SS4 SSS SSR"
+-- the skip of each test of A (W8)
 unfoldable pub testSlot : Test → ℕ
 testSlot Test.zero = SZE
 testSlot Test.nonzero = SNZ
@@ -127,6 +132,7 @@ testSlot Test.minus = SMI
 testSlot Test.odd = SLN
 testSlot Test.even = SLZ
 
+-- the skip of each test that stands alone (W9)
 unfoldable pub bareSlot : Bare → ℕ
 bareSlot Bare.cset = SSC
 bareSlot Bare.notc = SRC
@@ -137,11 +143,11 @@ bareSlot Bare.sense4 = SS4
 bareSlot Bare.anykey = SSS
 bareSlot Bare.nokey = SSR
 
--- the words after a relation's CAS: NOP, SKP, a jump past the condition (`JMP *+3`), and `JMP false`
+-- what may stand after a relation's CAS: NOP, SKP, a JMP past the condition, and a JMP to where it goes if it does not hold (W7)
 pub data Control : Type 0 where
   nop skip past fails : Control
 
--- "`=` CAS SKP SKP; `<>` CAS SKP; `>` CAS, JMP *+3, NOP; `>=` CAS NOP SKP; `<` CAS NOP", then `JMP false`. "`<=` is CAS, JMP false, NOP"
+-- which of these each relation has (W7)
 unfoldable pub controls : Relation → List Control
 controls Relation.equal = Control.skip ∷ Control.skip ∷ Control.fails ∷ []
 controls Relation.notEqual = Control.skip ∷ Control.fails ∷ []
@@ -150,7 +156,7 @@ controls Relation.atLeast = Control.nop ∷ Control.skip ∷ Control.fails ∷ [
 controls Relation.less = Control.nop ∷ Control.fails ∷ []
 controls Relation.atMost = Control.fails ∷ Control.nop ∷ []
 
--- where the condition ends, and where it goes if it fails
+-- as a word, by where the condition ends and where it goes if it does not hold (W7)
 unfoldable pub controlWord : ℕ → ℕ → Control → Sym
 controlWord end failing Control.nop = Sym.generic NOP
 controlWord end failing Control.skip = Sym.generic SKP
@@ -181,7 +187,7 @@ unfoldable mutual
   condEnd (Cond.test t e) at = suc (suc (exprEnd e at))
   condEnd (Cond.bare b) at = suc (suc at)
 
--- "integer, array element" as a cell that is stored to
+-- the left side of an assignment, as a cell that is stored to (W12)
 unfoldable pub targetCell : Target → Cell
 targetCell (Target.integer i) = Cell.plain (Operand.named i)
 targetCell (Target.item a s) = Cell.item a s
@@ -208,14 +214,16 @@ unfoldable mutual
 -- ---- The words of each form from an address on
 
 unfoldable mutual
+  -- the words of an expression: its term, its unary words, its operations (W4)
   pub exprWords : Expr → ℕ → List Sym
   exprWords (Expr.chain us t os) at = termWords t at ⧺ unariesWords us ⧺ operationsWords os
+  -- `.IF`: the condition, the first part, a JMP to the end, the second part, where the condition goes if it does not hold (W10)
   exprWords (Expr.choose c s t) at =
       let part = condEnd c at in
       let end = exprEnd s part in
       condWords c at (suc end) ⧺ exprWords s part ⧺ Sym.jump (exprEnd t (suc end)) ∷ exprWords t (suc end)
 
-  -- "Load LDA; `@` nothing; `.ZERO` CRA"
+  -- LDA of a cell, nothing for `@`, CRA for `.ZERO`, the words of an expression; of a call its argument, then the JST (W3, W14)
   pub termWords : Term → ℕ → List Sym
   termWords (Term.cell c) at = cellWords LDA c
   termWords Term.accumulator at = []
@@ -224,7 +232,7 @@ unfoldable mutual
   termWords (Term.call p) at = callWord p ∷ []
   termWords (Term.callWith p e) at = exprWords e at ⧺ callWord p ∷ []
 
-  -- "Test, then `JMP false`", which goes to `failing`
+  -- a relation, a test of A, a test alone: each goes to `failing` where it does not hold (W7, W8, W9)
   pub condWords : Cond → ℕ → ℕ → List Sym
   condWords (Cond.relation r e c) at failing =
       exprWords e at ⧺ cellWords CAS c ⧺ controlWords (condEnd (Cond.relation r e c) at) failing (controls r)
@@ -232,43 +240,49 @@ unfoldable mutual
   condWords (Cond.bare b) at failing = Sym.generic (bareSlot b) ∷ Sym.jump failing ∷ []
 
 unfoldable mutual
+  -- the words of a statement; an empty one has none (W15)
   pub stmtWords : Stmt → ℕ → List Sym
   stmtWords Stmt.empty at = []
-  -- "Assignment: expression, then LDX if needed, then STA; `@` no STA; `# =` is LDX"
+  -- an assignment: the value, then the LDX that the left side may need, then STA; no STA to `@` (W12)
   stmtWords (Stmt.assign t e) at = exprWords e at ⧺ cellWords STA (targetCell t)
   stmtWords (Stmt.toA e) at = exprWords e at
+  -- `# =` is LDX (W12)
   stmtWords (Stmt.setX c) at = cellWords LDX c
-  -- "If: test, first part, JMP end, second part"
+  -- `.IF`, as the expression above (W10)
   stmtWords (Stmt.if c s t) at =
       let part = condEnd c at in
       let end = stmtEnd s part in
       condWords c at (suc end) ⧺ stmtWords s part ⧺ Sym.jump (stmtEnd t (suc end)) ∷ stmtWords t (suc end)
-  -- "When: no JMP end"
+  -- `.WHEN`: where the condition does not hold it goes past the statement (W11)
   stmtWords (Stmt.when c s) at = condWords c at (stmtEnd s (condEnd c at)) ⧺ stmtWords s (condEnd c at)
-  -- "While: JMP back to the test"
+  -- `.WHILE`: a JMP back to the condition, which goes past that if it does not hold (W11)
   stmtWords (Stmt.while c s) at =
       let part = condEnd c at in condWords c at (suc (stmtEnd s part)) ⧺ stmtWords s part ⧺ Sym.jump at ∷ []
-  -- "For: STA counter, body, IRS counter, JMP body; with `#`, LDX first and IRS 0"
+  -- `.FOR`: the start, STA to the counter, the body, IRS of the counter, a JMP back to the body (W13)
   stmtWords (Stmt.for i e s) at =
       let body = suc (exprEnd e at) in
       exprWords e at ⧺ Sym.memory STA (Operand.named i) ∷ stmtWords s body ⧺ Sym.memory IRS (Operand.named i) ∷ Sym.jump body ∷ []
+  -- `.FOR #`: X is the counter, loaded by LDX (W13)
   stmtWords (Stmt.forX c s) at =
       let body = after (cellWords LDX c) at in
       cellWords LDX c ⧺ stmtWords s body ⧺ Sym.memory IRS (Operand.named Id.x) ∷ Sym.jump body ∷ []
+  -- a call: the argument if it has one, then the JST (W14)
   stmtWords (Stmt.call p) at = callWord p ∷ []
   stmtWords (Stmt.callWith p e) at = exprWords e at ⧺ callWord p ∷ []
+  -- a compound: its statements (W15)
   stmtWords (Stmt.compound ss) at = stmtsWords ss at
 
+  -- statements one after the other (W15)
   pub stmtsWords : Stmts → ℕ → List Sym
   stmtsWords (Stmts.one s) at = stmtWords s at
   stmtsWords (Stmts.more ss s) at = stmtsWords ss at ⧺ stmtWords s (stmtsEnd ss at)
 
 -- ---- Bodies
 
--- a procedure's code and "`JMP* link`", its code starting after the link
+-- what follows a procedure's link: its statements, then JMP, indirect, to the link (W16)
 unfoldable pub procedureWords : Stmts → ℕ → List Sym
 procedureWords body link = stmtsWords body (suc link) ⧺ Sym.return link ∷ []
 
--- "The main body ends in HLT"
+-- the statements of the main body, then HLT (W17)
 unfoldable pub mainWords : Stmts → ℕ → List Sym
 mainWords main at = stmtsWords main at ⧺ Sym.generic HLT ∷ []

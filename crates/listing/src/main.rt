@@ -1,4 +1,4 @@
-// The listing program: reads a source, compiles it, and prints the listing.
+// The listing program: reads a source, compiles it onto zeros, and prints the listing (P1). Its stored output is that of the first program (K1).
 use libc::STDIN_FILENO;
 use libc::STDOUT_FILENO;
 
@@ -12,7 +12,7 @@ fn print(text: &[u8], size: usize) {
 fn main() {
     let mut image = [0u16; 16384];
     let mut scratch = [0u16; 12288];
-    // One byte more than the longest source: a longer text fails by that byte.
+    // One byte more than the longest source: a longer one fails by that byte (F3).
     let mut text = [0u8; 8193];
     let n = io::read_full(STDIN_FILENO, &mut text);
     let answer = compiler::compile(&text[..n], &mut image, &mut scratch);

@@ -40,13 +40,15 @@ unfoldable pub lengthBy : ℕ → ℕ → ℕ
 lengthBy zero n = 0
 lengthBy (suc k) n = whether (ltb n 10) (λ _. 1) (λ _. suc (lengthBy k (n / 10)))
 
--- the listing's parts, as in `listingDef`
+-- the listing's parts, as in `listingDef`: a word's line (P2),
 unfoldable pub wordLine : List ℕ → ℕ → ℕ → List ℕ
 wordLine name at word = name ++ (octal at ++ line (bytes ":") (octal word))
 
+-- the first two lines, all of a failure (P1, P4),
 unfoldable pub resultLines : ℕ → ℕ → List ℕ
 resultLines number at = line (bytes "result=") (decimal number) ++ line (bytes "at=") (decimal at)
 
+-- and the next three (P1)
 unfoldable pub countLines : ℕ → ℕ → ℕ → List ℕ
 countLines entry words globals = line (bytes "entry=") (octal entry) ++ (line (bytes "words=") (decimal words) ++ line (bytes "globals=") (decimal globals))
 

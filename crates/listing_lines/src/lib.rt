@@ -1,4 +1,4 @@
-// The listing of document 01, written into a lent buffer from its start. Past its end nothing is stored, and the answer is the whole length.
+// The listing (P1 to P4), written into a lent buffer from its start. Past its end nothing is stored, and the answer is the whole length.
 use compiler::Answer;
 use layout::addresses;
 ghost use mathlib.Core.Path.{_≡_};
@@ -32,7 +32,7 @@ fn put_text(out: &mut [u8], at: usize, text: &[u8]) -> usize
     at + i
 }
 
-// So many of a number's lowest digits, stored from the last.
+// So many of a number's lowest digits, stored from the last (P3).
 fn put_digits(out: &mut [u8], at: usize, count: usize, base: usize, n: usize) -> usize
     requires { ⌜ (0 < base) × (base ≤ 10) × (at + count ≤ limit) ⌝ }
     ensures { λ r. ⌜ WroteJust count (now (out .entry)) (now (out .exit)) at r (digitsBy base count n) ⌝ }
@@ -83,7 +83,7 @@ fn put_number(out: &mut [u8], at: usize, name: &[u8], n: usize) -> usize
     put_line(out, at, name, decimal_length(n), 10, n)
 }
 
-// The line of a word: 14 bytes and the name.
+// The line of a word: 14 bytes and the name (P2).
 fn put_word(out: &mut [u8], at: usize, name: &[u8], address: usize, word: u16) -> usize
     requires { ⌜ at + (length (now name) + 14) ≤ limit ⌝ }
     ensures { λ r. ⌜ WroteJust (length (now (name .entry)) + 14) (now (out .entry)) (now (out .exit)) at r (wordLine (now (name .entry)) address word) ⌝ }
@@ -120,7 +120,7 @@ fn put_words(
     next
 }
 
-// The first two lines.
+// The first two lines, which are all of a failure (P1, P4).
 fn put_result(out: &mut [u8], number: u16, at: usize) -> usize
     ensures { λ r. ⌜ Wrote (now (out .entry)) (now (out .exit)) 0 r (resultLines number at) × (r ≤ 64) ⌝ }
 {
@@ -128,7 +128,7 @@ fn put_result(out: &mut [u8], number: u16, at: usize) -> usize
     put_number(out, next, b"at=", at)
 }
 
-// The next three.
+// The next three (P1).
 fn put_counts(out: &mut [u8], at: usize, entry: u16, words: u16, globals: u16) -> usize
     requires { ⌜ at ≤ 64 ⌝ }
     ensures { λ r. ⌜ Wrote (now (out .entry)) (now (out .exit)) at r (countLines entry words globals) × (r ≤ 256) ⌝ }

@@ -1,4 +1,4 @@
--- The machine's state: the registers by value and the image, whose word 0 is X.
+-- The machine's state.
 use Prim.Native.Nat.{ℕ, _<_}
 use mathlib.Core.Path.{_≡_}
 use lib.ListN.{length}
@@ -7,6 +7,7 @@ use mathlib.Core.List.{List}
 use Rattle.effect.specs.declared.Registers.{Registers}
 use Rattle.machine.specs.declared.Machine.{Machine}
 
+-- the machine by value, its registers, P and switches, and whether it is halted; and the image, whose word 0 is X (R1)
 pub record State : Type 0 where
   pub machine : Machine
   pub image : List ℕ

@@ -1,4 +1,4 @@
-// The machine's failures by their numbers.
+// The machine's failures by their numbers (F1, F20 to F23).
 pub const WRONG_IMAGE: u16 = 1;
 
 pub const UNKNOWN_WORD: u16 = 20;

@@ -19,7 +19,7 @@ const LAST_P: u16 = 16383;
 
 const LARGEST_BUDGET: u32 = 1000000;
 
-// Half of the clock's range: a deadline that is this far behind, or further, counts as one ahead.
+// Half of the clock's range: a deadline that is this far behind, or further, counts as one ahead (R9).
 const HALF_RANGE: u32 = 2147483648;
 
 pub struct Machine {
@@ -29,7 +29,7 @@ pub struct Machine {
     pub halted: bool,
 }
 
-// The service clock, which counts the steps of all runs in 32 bits and wraps.
+// The service clock, which counts the steps of all runs in 32 bits and wraps (R8).
 pub struct Clock {
     pub common: u32,
 }

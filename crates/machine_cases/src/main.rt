@@ -1,4 +1,4 @@
-// The limits of the machine in document 01, by name: each case prints what came out.
+// The limits of the machine (R3 to R9, F1, F20 to F23, J12), by name: each case prints what came out.
 use effect::Registers;
 use effect::Switches;
 use image::CHAIN;

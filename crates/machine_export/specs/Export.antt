@@ -1,4 +1,4 @@
--- A run for other languages: the machine, the clock and the request as fourteen numbers, in this order.
+-- A run for other languages: the machine, the clock and the request as fourteen numbers, in this order (R11).
 -- Before the run: 0 A, 1 B, 2 C, 3 P, 4 to 7 the sense switches, 8 halted, 9 the clock, 10 the budget. C, a switch and halted are 0 or 1.
 -- After it also: 11 the outcome, 12 the failure's number or 0, 13 the steps made.
 use mathlib.Core.Path.{_≡_}
@@ -29,7 +29,7 @@ wordsFit words = upTo 65535 (0 ∷ 1 ∷ 3 ∷ []) words
 abbrev pub flagsFit : List ℕ → Bool
 flagsFit words = upTo 1 (2 ∷ 4 ∷ 5 ∷ 6 ∷ 7 ∷ 8 ∷ []) words
 
--- fourteen numbers of which A, B and P are words, and C, the switches and halted 0 or 1; any others are refused, and nothing changes
+-- fourteen numbers of which A, B and P are words, and C, the switches and halted 0 or 1; any others are no state, and nothing changes (R11)
 unfoldable pub fitsOf : List ℕ → Bool
 fitsOf words = cond (eqb (length words) 14) (cond (wordsFit words) (flagsFit words) false) false
 
@@ -58,6 +58,7 @@ clockOf words = record { common = getD words 9 0 }
 abbrev pub requestOf : List ℕ → Request
 requestOf words = record { budget = getD words 10 0 }
 
+-- how the run ended, as a number (C5)
 abbrev pub outcomeOf : Outcome → ℕ
 outcomeOf Halted = 0
 outcomeOf Spent = 1

@@ -1,4 +1,4 @@
-// The machine for other languages, on slices of numbers. specs/Export.antt says which number is what.
+// The machine for other languages, on slices of numbers (R11). specs/Export.antt says which number is what.
 ghost use mathlib.Core.Path.{_≡_};
 ghost use Prim.Native.Nat.{_<_};
 ghost use lib.ListN.{length};

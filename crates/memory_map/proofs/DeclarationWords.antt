@@ -1,4 +1,4 @@
--- The words that a declaration lays: how many, and which.
+-- The words that a declaration becomes: how many, and which.
 use Prim.Native.Nat.{ℕ, zero, suc, _+_, _<_}
 use mathlib.Core.Path.{_≡_, refl, sym, ap, _∙_, subst}
 use mathlib.Core.List.{List, [], _∷_, _++_, map, foldl}

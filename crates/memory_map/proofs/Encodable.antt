@@ -1,4 +1,4 @@
--- Each symbolic word of a well-formed part can be laid: its instruction is one, and what it refers to is in reach.
+-- Each symbolic word of a well-formed part can be emitted: its instruction is one, and what it refers to is in reach.
 use Prim.Native.Nat.{ℕ, zero, suc, _≤_, _<_}
 use mathlib.Core.Path.{_≡_, refl, sym, subst}
 use mathlib.Core.Bool.{true}
@@ -8,7 +8,7 @@ use native.Mathlib.Nat.{le-add-right}
 use native.Mathlib.Omega.{arith}
 use lib.Dec.{T}
 use lib.ListN.{length, getD}
-use Rattle.instruction.specs.Opcode.{JMP, LDA, ANA, STA, ERA, ADD, SUB, JST, CAS, IRS, LDX}
+use Rattle.instruction.specs.Opcode.{ADD, ANA, CAS, ERA, IRS, JMP, JST, LDA, LDX, STA, SUB}
 use Rattle.instruction.specs.Slot.{CRA}
 use Rattle.instruction.specs.Table.{generics, tableOf}
 use Rattle.instruction.specs.Decode.{findWord, genericOf, isShift, shiftOf, memoryOf, decodeDef}
@@ -18,7 +18,7 @@ use Rattle.layout.specs.Words.{Sym, _⧺_, after, subscriptWords, reachWords, i
 use Rattle.parsing_laws.specs.WellFormed.{Kind, Context, IdOk, OperandOk, ArrayOk, ProcedureOk, CellOk, OperationsOk, TermOk, CondOk, ExprBy, ExprOk, TargetOk, StmtBy, StmtsBy, IsEmpty, StmtOk}
 use Rattle.layout_laws.proofs.Spans.{Span, span-expr, span-cond, span-stmt, span-stmts, span-end, along}
 
--- a code of the instruction table
+-- an opcode of the instruction table
 abbrev pub OpcodeOk : ℕ → Type 0
 OpcodeOk code = ((JMP ≤ code) × (code ≤ IRS)) ⊎ (code ≡ LDX)
 

@@ -38,7 +38,7 @@ inside-bounds a v h = go (leb (65536 - a .size) v) (ltb v 65536) refl refl h
     go false c e f h = let z : _≡_ {A = ℕ} 0 1 = cc in absurd (omega arith)
 
 module _ (p : Program) (st : Allocation) (ks : List Kind) (ds : List Declaration) (m : List Role) where
-  -- what a declaration has laid is as it will be
+  -- what a declaration has placed is as it will be
   stays : (d : Declaration) → Here p st ks (d ∷ ds) m → (k : ℕ) → Outside (allocate st d) k → mapAt p k ≡ getD (placing p st d m) k Role.free
   stays d h k o = kept p ds (allocate st d) (ks ++ kindsOf (d ∷ [])) (placing p st d m) (next p st ks d ds m h) .same k o
 

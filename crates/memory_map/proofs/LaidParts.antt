@@ -1,4 +1,4 @@
--- Where each symbolic word stands in the map, the parts are laid.
+-- Where each symbolic word stands in the map, the parts do, as the relations of specs/Laid say.
 use Prim.Native.Nat.{ℕ, zero, suc, _+_}
 use mathlib.Core.Path.{_≡_, refl, sym, subst, _∙_}
 use mathlib.Core.Bool.{true, false}
@@ -76,7 +76,7 @@ module _ (M : Map) where
       go (Option.some p) e b q k = LaidUnary.plain e (plain (p ∷ []) a b q k)
       go Option.none e b (Span.word (Span.word Span.none)) k = LaidUnary.abs e (first k) (first (rest k))
 
-  -- the last unary word is laid first
+  -- the last unary word comes first
   unaries : (us : List Unary) (a b : ℕ) → Span a (unariesWords us) b → Covers M a (unariesWords us) → LaidUnaries M us a b
   unfolding unariesWords
   unaries [] a b Span.none k = LaidUnaries.none

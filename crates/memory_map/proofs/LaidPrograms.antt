@@ -1,4 +1,4 @@
--- A program whose parts are placed is laid.
+-- A program whose parts are placed stands in its map, as `LaidProgram` says.
 use Prim.Native.Nat.{ℕ, suc, _+_, _*_, _≤_}
 use mathlib.Core.Path.{_≡_, sym, ap, subst, _∙_, refl}
 use mathlib.Core.Bool.{Bool}

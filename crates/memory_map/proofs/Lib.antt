@@ -1,4 +1,4 @@
--- What is laid where: every accepted program stands in its map as the relation Laid says.
+-- What stands where: every accepted program is in its map as the relation Laid says.
 pub mod PoolLaws
 pub mod Sectors
 pub mod Room

@@ -1,4 +1,4 @@
--- The pool of each sector: it is laid where its code ends, and holds the literals of the sector.
+-- The pool of each sector: it stands where its code ends, and holds the literals of the sector.
 use Prim.Native.Nat.{ℕ, suc, _+_, _*_, _≤_, _<_}
 use mathlib.Core.Path.{_≡_, refl, sym, ap, _∙_, subst}
 use mathlib.Core.List.{List, [], _∷_, _++_, map}

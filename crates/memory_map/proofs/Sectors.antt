@@ -14,7 +14,7 @@ use Rattle.layout.specs.Map.{noPlan, plansFrom, planOf, Plan, declared, finishe
 use Rattle.memory_map.specs.MapLaws.{Among, Extends}
 use Rattle.memory_map.proofs.PoolLaws.{same, joined, added-all-end, still-among, all-among}
 
--- the pool of the sector that is open: what it holds is still in it when it is laid
+-- the pool of the sector that is open: what it holds is still in it when it is placed
 pub open-grows : (st : Allocation) (ds : List Declaration) (main : Stmts) → Extends (st .pool) (getD (plansFrom st ds main) 0 noPlan .pool)
 unfolding plansFrom allocate finish
 open-grows st [] main = added-all-end (st .pool) (literalsOf (mainWords main (st .next)))

@@ -1,4 +1,4 @@
--- A declaration lays its words in what is still free, and leaves the rest as it was.
+-- A declaration places its words in what is still free, and leaves the rest as it was.
 use Prim.Native.Nat.{ℕ, suc, _+_, _-_, _*_, _≤_, _<_}
 use mathlib.Core.Path.{_≡_, _∙_}
 use mathlib.Core.Logic.{_⊎_, inl, inr}
@@ -44,7 +44,7 @@ aside : (m : List Role) (at : ℕ) (ws : List Role) (lo hi k : ℕ) → lo ≤ a
 aside m at ws lo hi k l h s (inl e) = placed-before m at ws (omega arith) k (omega arith)
 aside m at ws lo hi k l h s (inr e) = placed-after m at ws (omega arith) k (omega arith)
 
--- words laid among the globals, and among the code and arrays
+-- words placed among the globals, and among the code and arrays
 module _ (st : Allocation) (r : FreeSpace st) (m : List Role) (size : length m ≡ 16384) (at : ℕ) (ws : List Role) where
   pub in-globals : 0o200 + st .scope .taken ≤ at → at + length ws ≤ 512 → (k : ℕ) → Outside st k → getD (placed m at ws) k Role.free ≡ getD m k Role.free
   in-globals l h k o = aside m at ws (0o200 + st .scope .taken) 512 k l h (omega arith) (from-globals st k r o)

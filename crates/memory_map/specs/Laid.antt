@@ -1,4 +1,5 @@
--- Words laid, as a relation: a part of a program stands in a memory map from address a up to (not including) b. It says nothing of how addresses were chosen.
+-- The words of each form as a relation (group W of docs/REFERENCE.md): a part of a program stands in a memory map from address a up to (not including) b.
+-- It says nothing of how addresses were chosen.
 use Prim.Native.Nat.{ℕ, suc, _+_, _%_, _<_}
 use mathlib.Core.Path.{_≡_}
 use mathlib.Core.Bool.{Bool, true, false}
@@ -20,7 +21,7 @@ use Rattle.layout.specs.Addresses.{memoryWords}
 abbrev pub Map : Type 0
 Map = ℕ → Role
 
--- X is word 0; no cell and no link stands twice
+-- X is word 0 (A2); no cell and no link stands twice
 pub record Sound (M : Map) : Type 0 where
   pub x-at : M 0 ≡ Role.cell (CellId.named Id.x) 0
   pub once : (k l : ℕ) (i : CellId) (v w : ℕ) → M k ≡ Role.cell i v → M l ≡ Role.cell i w → k ≡ l
@@ -40,12 +41,12 @@ pub record Refers (M : Map) (a opcode : ℕ) (indirect : Bool) (k : ℕ) : Type 
   pub sits : Sits M a (Memory opcode indirect false sector address)
   pub reaches : baseOf a sector address ≡ k
 
--- an operand stands at k
+-- an operand stands at k (W1)
 pub data Direct (M : Map) : Operand → ℕ → Type 0 where
   named : {i : Id} {k v : ℕ} → k < memoryWords → M k ≡ Role.cell (CellId.named i) v → Direct M (Operand.named i) k
   literal : {v k : ℕ} → k < memoryWords → v < 65536 → M k ≡ Role.fixed v → Direct M (Operand.literal v) k
 
--- an array word: no indirect flag, the tag, and the address of element 0
+-- an array word: no indirect flag, the tag, and the address of element 0 (A3), below which the elements stand (A5)
 pub record ArrayWord (M : Map) (a : Array) (k : ℕ) : Type 0 where
   pub below : k < memoryWords
   pub word : ℕ
@@ -55,7 +56,7 @@ pub record ArrayWord (M : Map) (a : Array) (k : ℕ) : Type 0 where
   pub initial : ℕ → ℕ
   pub elements : (v : ℕ) → isInside a v ≡ true → M ((word % memoryWords + v) % memoryWords) ≡ Role.cell (CellId.element (a .number) v) (initial v)
 
--- a procedure word: the link's address
+-- a procedure word: the link's address (A3)
 pub record ProcedureWord (M : Map) (p k : ℕ) : Type 0 where
   pub below : k < memoryWords
   pub link : ℕ
@@ -72,12 +73,12 @@ pub data Knows : Known → ℕ → Type 0 where
   earlier : {p q : ℕ} {s : Stmts} {ps : Known} → Knows ps p → Knows ((q, s) ∷ ps) p
 
 module _ (M : Map) where
-  -- the LDX of an array's subscript; the array is there for what may be laid after it
+  -- the LDX of an array's subscript; the array is there for what may come after it (W2)
   pub data LaidSubscript (r : Array) : Subscript → ℕ → ℕ → Type 0 where
     by : {o : Operand} {a k : ℕ} → Refers M a LDX false k → Direct M o k → LaidSubscript r (Subscript.by o) a (suc a)
     hash : {a : ℕ} → LaidSubscript r Subscript.hash a a
 
-  -- a cell's own words go from a to m; the instruction at m then has the indirect flag i and refers to k
+  -- a cell's own words go from a to m; the instruction at m then has the indirect flag i and refers to k (W1, W2)
   pub data LaidCell : Cell → ℕ → ℕ → Bool → ℕ → Type 0 where
     plain : {o : Operand} {a k : ℕ} → Direct M o k → LaidCell (Cell.plain o) a a false k
     item : {r : Array} {s : Subscript} {a m k : ℕ} → LaidSubscript r s a m → ArrayWord M r k → LaidCell (Cell.item r s) a m true k
@@ -88,6 +89,7 @@ module _ (M : Map) where
   pub data LaidJump (a z : ℕ) : Type 0 where
     jump : Refers M a JMP false z → LaidJump a z
 
+  -- the JST of a call (W14)
   pub data LaidCall (ps : Known) (p a : ℕ) : Type 0 where
     call : {k : ℕ} → Knows ps p → ProcedureWord M p k → Refers M a JST true k → LaidCall ps p a
 
@@ -97,7 +99,7 @@ module _ (M : Map) where
     generic : {slot a b : ℕ} {ps : List Plain} → Sits M a (Generic slot) → LaidPlain ps (suc a) b → LaidPlain (Plain.generic slot ∷ ps) a b
     shift : {kind n a b : ℕ} {ps : List Plain} → Sits M a (Shift kind n) → LaidPlain ps (suc a) b → LaidPlain (Plain.shift kind n ∷ ps) a b
 
-  -- unary words, the last in the source first
+  -- unary words, the last in the source first (W4, W5)
   pub data LaidUnary (u : Unary) : ℕ → ℕ → Type 0 where
     plain : {p : Plain} {a b : ℕ} → unaryPlain u ≡ Option.some p → LaidPlain (p ∷ []) a b → LaidUnary u a b
     abs : {a : ℕ} → unaryPlain u ≡ Option.none → Sits M a (Generic SPL) → Sits M (suc a) (Generic TCA) → LaidUnary u a (suc (suc a))
@@ -106,6 +108,7 @@ module _ (M : Map) where
     none : {a : ℕ} → LaidUnaries [] a a
     more : {u : Unary} {us : List Unary} {a m b : ℕ} → LaidUnaries us a m → LaidUnary u m b → LaidUnaries (u ∷ us) a b
 
+  -- operations from left to right (W4, W6)
   pub data LaidOperations : List Operation → ℕ → ℕ → Type 0 where
     none : {a : ℕ} → LaidOperations [] a a
     binary : {o : tree.Operator} {c : Cell} {os : List Operation} {a m b : ℕ} → LaidOn (operatorOpcode o) c a m → LaidOperations os m b
@@ -113,7 +116,7 @@ module _ (M : Map) where
     shift : {s : tree.Shift} {n a m b : ℕ} {os : List Operation} → LaidPlain (shiftPlain s n ∷ []) a m → LaidOperations os m b
         → LaidOperations (Operation.shift s n ∷ os) a b
 
-  -- the words after a CAS, from a to b; z is where the condition fails
+  -- the words after a CAS, from a to b; z is where the condition fails (W7)
   abbrev pub controlSits : ℕ → ℕ → ℕ → Control → Type 0
   controlSits a b z Control.nop = Sits M a (Generic NOP)
   controlSits a b z Control.skip = Sits M a (Generic SKP)
@@ -126,12 +129,14 @@ module _ (M : Map) where
 
   -- parts that may call the procedures ps. A condition goes on to b where it holds, to z where it does not
   mutual
+    -- an expression, and a conditional one (W4, W10)
     pub data LaidExpr (ps : Known) : Expr → ℕ → ℕ → Type 0 where
       chain : {us : List Unary} {t : Term} {os : List Operation} {a m n b : ℕ} → LaidTerm ps t a m → LaidUnaries us m n → LaidOperations os n b
           → LaidExpr ps (Expr.chain us t os) a b
       choose : {c : Cond} {s t : Expr} {a m n b : ℕ} → LaidCond ps c a m (suc n) → LaidExpr ps s m n → LaidJump n b → LaidExpr ps t (suc n) b
           → LaidExpr ps (Expr.choose c s t) a b
 
+    -- a term (W3, W14)
     pub data LaidTerm (ps : Known) : Term → ℕ → ℕ → Type 0 where
       cell : {c : Cell} {a b : ℕ} → LaidOn LDA c a b → LaidTerm ps (Term.cell c) a b
       accumulator : {a : ℕ} → LaidTerm ps Term.accumulator a a
@@ -140,6 +145,7 @@ module _ (M : Map) where
       call : {p a : ℕ} → LaidCall ps p a → LaidTerm ps (Term.call p) a (suc a)
       callWith : {p a m : ℕ} {e : Expr} → LaidExpr ps e a m → LaidCall ps p m → LaidTerm ps (Term.callWith p e) a (suc m)
 
+    -- a relation, a test of A, a test alone (W7, W8, W9)
     pub data LaidCond (ps : Known) : Cond → ℕ → ℕ → ℕ → Type 0 where
       relation : {r : tree.Relation} {e : Expr} {c : Cell} {a m n b z : ℕ} → LaidExpr ps e a m → LaidOn CAS c m n → LaidControls z (controls r) n b
           → LaidCond ps (Cond.relation r e c) a b z
@@ -150,26 +156,31 @@ module _ (M : Map) where
   mutual
     pub data LaidStmt (ps : Known) : Stmt → ℕ → ℕ → Type 0 where
       empty : {a : ℕ} → LaidStmt ps Stmt.empty a a
+      -- assignments (W12)
       assign : {t : Target} {e : Expr} {a m b : ℕ} → LaidExpr ps e a m → LaidOn STA (targetCell t) m b → LaidStmt ps (Stmt.assign t e) a b
       toA : {e : Expr} {a b : ℕ} → LaidExpr ps e a b → LaidStmt ps (Stmt.toA e) a b
       setX : {c : Cell} {a b : ℕ} → LaidOn LDX c a b → LaidStmt ps (Stmt.setX c) a b
+      -- `.IF`, `.WHEN` and `.WHILE` (W10, W11)
       if : {c : Cond} {s t : Stmt} {a m n b : ℕ} → LaidCond ps c a m (suc n) → LaidStmt ps s m n → LaidJump n b → LaidStmt ps t (suc n) b
           → LaidStmt ps (Stmt.if c s t) a b
       when : {c : Cond} {s : Stmt} {a m b : ℕ} → LaidCond ps c a m b → LaidStmt ps s m b → LaidStmt ps (Stmt.when c s) a b
       while : {c : Cond} {s : Stmt} {a m n : ℕ} → LaidCond ps c a m (suc n) → LaidStmt ps s m n → LaidJump n a → LaidStmt ps (Stmt.while c s) a (suc n)
+      -- both forms of `.FOR` (W13)
       for : {i : Id} {e : Expr} {s : Stmt} {a m n k : ℕ} → LaidExpr ps e a m → Direct M (Operand.named i) k → Refers M m STA false k
           → LaidStmt ps s (suc m) n → Refers M n IRS false k → LaidJump (suc n) (suc m) → LaidStmt ps (Stmt.for i e s) a (suc (suc n))
       forX : {c : Cell} {s : Stmt} {a m n : ℕ} → LaidOn LDX c a m → LaidStmt ps s m n → Refers M n IRS false 0 → LaidJump (suc n) m
           → LaidStmt ps (Stmt.forX c s) a (suc (suc n))
+      -- calls (W14)
       call : {p a : ℕ} → LaidCall ps p a → LaidStmt ps (Stmt.call p) a (suc a)
       callWith : {p a m : ℕ} {e : Expr} → LaidExpr ps e a m → LaidCall ps p m → LaidStmt ps (Stmt.callWith p e) a (suc m)
       compound : {ss : Stmts} {a b : ℕ} → LaidStmts ps ss a b → LaidStmt ps (Stmt.compound ss) a b
 
+    -- statements one after the other (W15)
     pub data LaidStmts (ps : Known) : Stmts → ℕ → ℕ → Type 0 where
       one : {s : Stmt} {a b : ℕ} → LaidStmt ps s a b → LaidStmts ps (Stmts.one s) a b
       more : {ss : Stmts} {s : Stmt} {a m b : ℕ} → LaidStmts ps ss a m → LaidStmt ps s m b → LaidStmts ps (Stmts.more ss s) a b
 
-  -- a procedure: its link, its code, `JMP* link`
+  -- a procedure: its link, its code, `JMP* link` (W16)
   pub record LaidProcedure (ps : Known) (p : ℕ) (body : Stmts) : Type 0 where
     pub link : ℕ
     pub item : M link ≡ Role.link p
@@ -182,7 +193,7 @@ module _ (M : Map) where
     none : LaidProcedures []
     more : {p : ℕ} {body : Stmts} {ps : Known} → LaidProcedure ps p body → (Knows ps p → ⊥) → LaidProcedures ps → LaidProcedures ((p, body) ∷ ps)
 
--- a whole program, with its entry
+-- a whole program, with its entry: its main body ends in HLT (W17)
 pub record LaidProgram (M : Map) (ps : Known) (main : Stmts) (entry : ℕ) : Type 0 where
   pub sound : Sound M
   pub procedures : LaidProcedures M ps

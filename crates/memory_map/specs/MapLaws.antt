@@ -32,33 +32,34 @@ pub record StandsAt (p : Program) (i : CellId) (v : ℕ) : Type 0 where
   pub here : mapAt p at ≡ Role.cell i v
 
 pub record MapLaws : Type 0 where
-  -- "equal values sharing one word": no two words of a pool are equal
+  -- equal literals share a place: no two words of a pool are equal (A7)
   pub distinct : (vs : List ℕ) (k : ℕ) → k < length (addedAll [] vs) → indexOf (addedAll [] vs) (getD (addedAll [] vs) k 0) ≡ k
-  -- the literals of words are in the pool after them, each at its index; and a pool has nothing else
+  -- the literals of words are in the pool after them, each at its index; and a pool has nothing else (A7)
   pub pooled : (pool : List ℕ) (ws : List Sym) (v : ℕ) → Among (literalsOf ws) v
       → let after = addedAll pool (literalsOf ws) in Among after v × (getD after (indexOf after v) 0 ≡ v)
   pub only : (vs : List ℕ) (v : ℕ) → Among (addedAll [] vs) v → Among vs v
-  -- the pool of each sector begins where its code ends
+  -- the pool of each sector begins where its code ends (A8)
   pub pool-ends : (p : Program) (k : ℕ) → planOf p k .poolAt ≡ getD (finished p .ends ++ (finished p .next ∷ [])) k 0
-  -- a literal of a procedure's body is in the pool of the sector that is filled then, and one of the main body in the last pool
+  -- a literal of a procedure's body is in the pool of the sector that is filled then, and one of the main body in the last pool (A7)
   pub in-sector : (p : Program) (before after : List Declaration) (name : Name) (accumulator : Bool) (locals : List (Name × Item)) (body : Stmts) (v : ℕ)
       → p .declarations ≡ before ++ (Declaration.procedure name accumulator locals body ∷ after)
       → let st = allocated before in Among (literalsOf (procedureWords body (linkOf st name locals))) v → Among (planOf p (length (st .ends)) .pool) v
   pub in-last-sector : (p : Program) (v : ℕ)
       → let st = allocated (p .declarations) in Among (literalsOf (mainWords (p .main) (st .next))) v → Among (planOf p (length (st .ends)) .pool) v
-  -- "in order of first use": words laid later only add at the end, and what is pooled keeps its place
+  -- a pool has its literals as they are first used: words emitted later only add at the end, and what is pooled keeps its place (A7)
   pub appended : (pool vs : List ℕ) → Extends pool (addedAll pool vs)
   pub stays : (pool vs : List ℕ) (v : ℕ) → Among pool v → indexOf (addedAll pool vs) v ≡ indexOf pool v
   -- every accepted program is well-formed, and nothing but its tree decides what it compiles to
   pub well-formed : (source : List ℕ) (c : Compiled) → compileDef source ≡ Result.accepted c → WellFormed (c .program)
   pub by-tree : (source : List ℕ) (c : Compiled) → compileDef source ≡ Result.accepted c → c ≡ compiled (c .program)
-  -- the image has 16,384 words
+  -- the image has 16,384 words (A1)
   pub image-size : (source : List ℕ) (c : Compiled) → compileDef source ≡ Result.accepted c → length (c .image) ≡ memoryWords
-  -- each variable that is declared, X too, has one home; X's is word 0; no link stands twice
+  -- each variable that is declared, X too, has one home (M2, demand 3g)
   pub homes : (source : List ℕ) (c : Compiled) → compileDef source ≡ Result.accepted c → (i : CellId) → List·Memᴰ i (variablesOf (c .program)) → Home (c .program) i
-  -- and each named constant has one, which holds its value
+  -- and each named constant has one, which holds its value (M2)
   pub constants : (source : List ℕ) (c : Compiled) → compileDef source ≡ Result.accepted c → (i : CellId) (v : ℕ) → List·Memᴰ (i, v) (constantsOf (c .program)) → StandsAt (c .program) i v
+  -- X's home is word 0 (A2); no link stands twice
   pub sound : (source : List ℕ) (c : Compiled) → compileDef source ≡ Result.accepted c → Sound (mapAt (c .program))
-  -- code, array words and procedure words are fixed words of the map, in one sector with what they refer to: every body is laid as the relation says
+  -- code, array words and procedure words are fixed words of the map, in one sector with what they refer to: every body stands there as the relation says
   pub laid : (source : List ℕ) (c : Compiled) → compileDef source ≡ Result.accepted c
       → LaidProgram (mapAt (c .program)) (knownOf (c .program .declarations)) (c .program .main) (c .entry)

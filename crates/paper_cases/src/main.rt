@@ -1,5 +1,5 @@
-// Document 01's cases of the compiler that proved_cases does not have, by name: the listing of each, what is left in the image and in scratch,
-// and how the image of an accepted one runs.
+// Cases of the compiler by name, those that proved_cases does not have (K5, K6, and F1 to F3): the listing of each, what is left in the image
+// and in scratch, and how the image of an accepted one runs.
 use case_input::parse_number;
 use case_input::part_end;
 use compiler::Answer;
@@ -42,7 +42,7 @@ fn print_number(name: &[u8], n: u32) {
     print(b"\n");
 }
 
-// The image as it was laid, from its entry, all registers 0.
+// The image as it was emitted, from its entry, all registers 0.
 fn run(image: &mut [u16], entry: u16) {
     let registers = Registers {
         a: 0,
@@ -77,7 +77,7 @@ fn run(image: &mut [u16], entry: u16) {
     print_number(b"a=", report.machine.registers.a as u32);
 }
 
-// Answers whether an image was laid.
+// Answers whether an image was emitted.
 fn listing(source: &[u8], image: &mut [u16], scratch: &mut [u16]) -> bool {
     let answer = compiler::compile(source, image, scratch);
     let mut out = [0u8; 262144];

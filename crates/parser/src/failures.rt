@@ -1,4 +1,4 @@
-// The numbers of the failures that reading a source can end in; 2 where the table that is lent for it is too short.
+// The numbers of the failures that reading a source can end in (F4 to F14); 2 where the table that is lent for it is too short (F2).
 pub const SHORT_SCRATCH: u16 = 2;
 
 pub const UNKNOWN: u16 = 4;

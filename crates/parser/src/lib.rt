@@ -37,7 +37,7 @@ fn failure(t: Token, number: u16) -> u16
     number
 }
 
-// A failure at a token: "at one token the lower number".
+// A failure at a token: by the lowest number (J3), at its first byte (J4).
 pub fn fail_at(t: Token, number: u16) -> Part
     ensures { λ r. ⌜ r ≡ Part.Failed (failureAt t number) (t .at) ⌝ }
 {
@@ -47,7 +47,7 @@ pub fn fail_at(t: Token, number: u16) -> Part
     }
 }
 
-// The token of a kind, or failure 6.
+// The token of a kind, or failure 6 (J6).
 pub fn expect(source: &[u8], kind: u16, at: usize) -> Part
     ensures { λ r. ⌜ r ≡ partOf (expectDef kind (now (source .entry)) at) ⌝ }
 {
@@ -58,7 +58,7 @@ pub fn expect(source: &[u8], kind: u16, at: usize) -> Part
     fail_at(t, failures::NOT_ALLOWED)
 }
 
-// A token that nothing allowed there begins with.
+// A token that nothing allowed there begins with (J5).
 pub fn refused(t: Token) -> Part
     ensures { λ r. ⌜ r ≡ partOf {A = ℕ} (refuse t) ⌝ }
 {

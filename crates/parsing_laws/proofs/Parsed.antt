@@ -1,4 +1,4 @@
--- One walk over parsing: what is got is well-formed, and every failure is numbered and placed in the text.
+-- One walk over parsing: what is got is well-formed, and every failure is numbered and placed in the source.
 pub mod Choices
 pub mod Words
 pub mod Parts

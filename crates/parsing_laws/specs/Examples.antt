@@ -1,4 +1,4 @@
--- Worked examples, decided by computation: a text that ends, and one that is failed at its last byte.
+-- Worked examples, decided by computation: a source that ends too early, and one that fails at its last byte.
 use mathlib.Core.Path.{_≡_, refl}
 use Rattle.source.specs.Bytes.{bytes}
 use Rattle.compilation.specs.Compile.{Result, compileDef}

@@ -108,7 +108,7 @@ StmtBy x expr inner (Stmt.call p) = ProcedureOk x p
 StmtBy x expr inner (Stmt.callWith p e) = ProcedureOk x p × expr e
 StmtBy x expr inner (Stmt.compound ss) = StmtsBy inner ss
 
--- a statement with no level left is empty
+-- a statement with no level left is empty (S12)
 abbrev pub IsEmpty : Stmt → Type 0
 IsEmpty Stmt.empty = Unit {0}
 IsEmpty (Stmt.assign t e) = ⊥

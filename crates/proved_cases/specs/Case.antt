@@ -1,4 +1,4 @@
--- A table of worked cases: a row is what a paper says and the claim that it makes, mostly "got ≡ wanted". A claim is a type, so that a row may
+-- A table of worked cases: a row is a case in words and the claim that it makes, mostly `got ≡ wanted`. A claim is a type, so that a row may
 -- also speak of every state or clock; a row is added by its line in the list and its proof at the same place.
 use Prim.Native.String.{String}
 use mathlib.Core.List.{List, [], _∷_}

@@ -13,7 +13,7 @@ abbrev pub imageIn : Result → List ℕ
 imageIn (Result.accepted c) = c .image
 imageIn (Result.failed n at) = []
 
--- A and P; B and C are 0 and no key is set
+-- A and P; B and C are 0 and no sense switch is set
 abbrev pub machineAt : ℕ → ℕ → Bool → Machine
 machineAt a p halted = record {
   registers = record { a = a; b = 0; c = false };
@@ -26,11 +26,12 @@ machineAt a p halted = record {
 abbrev pub run : Machine → List ℕ → Ran
 run m image = runDef (record { budget = 1000000 }) (state m image)
 
-abbrev pub firstRecipe : List ℕ
-firstRecipe = bytes ".BEGIN .INTEGER A; A = 2140 + 1875 + 960 .END"
+-- the first program of docs/REFERENCE.md (K1)
+abbrev pub firstProgram : List ℕ
+firstProgram = bytes ".BEGIN .INTEGER A; A = 2140 + 1875 + 960 .END"
 
 unfoldable pub sums : List ℕ
-sums = imageIn (compileDef firstRecipe)
+sums = imageIn (compileDef firstProgram)
 
 unfoldable pub absolute : List ℕ
 absolute = imageIn (compileDef (bytes ".BEGIN @ = .ABS @ .END"))

@@ -1,4 +1,4 @@
-// The worked cases of document 01 that are marked *, as one table. This function carries the theorem that every row holds.
+// Known cases as one table (C4). This function carries the theorem that every row holds.
 ghost use Rattle.proved_cases.specs.Table.{TableHolds};
 
 pub fn cases_hold()

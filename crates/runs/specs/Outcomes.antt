@@ -13,26 +13,27 @@ use Rattle.machine.specs.Step.{failed, stepDef}
 use Rattle.machine.specs.Run.{Ran, ran, runDef}
 use Rattle.runs.specs.Steps.{Steps}
 
--- what the outcome of a run on a budget says: "Spent: all were made and none was HLT"; a failed step leaves the "state before that step"
+-- what the outcome of a run on a budget says (R3, demand 1b): spent, that no step is left and none was a halt (R4); failed, that the step which failed
+-- is the one from the state that is left, with 20 or 21 (R6, demand 1d)
 abbrev pub Says : ℕ → Ran → Outcome → Type 0
 Says budget r Halted = r .state .machine .halted ≡ true
 Says budget r Spent = (r .steps ≡ budget) × (r .state .machine .halted ≡ false)
 Says budget r (Failed f) =
     (r .steps < budget) × (r .state .machine .halted ≡ false) × (stepDef (r .state) ≡ failed f) × ((f ≡ unknownWord) ⊎ (f ≡ longChain))
 
--- r is the end of a run from s on a budget: just so many steps were made as it reports, no more than the budget
+-- r is the end of a run from s on a budget: just so many steps were made as it reports, no more than the budget (R2, demand 1b)
 pub record Ended (budget : ℕ) (s : State) (r : Ran) : Type 0 where
   pub made : Steps (r .steps) s (r .state)
   pub within : r .steps ≤ budget
   pub says : Says budget r (r .outcome)
 
--- why a run is refused, and with which number: "Machine calls: 1, 23, 22", each where none before it applies
+-- why a run is refused, and with which number, each where none before it applies (J12, F1, F22, F23)
 pub data Refusal : Request → State → ℕ → Type 0 where
   of-image : {q : Request} {s : State} → (length (s .image) ≡ 16384 → ⊥) → Refusal q s wrongImage
   of-p : {q : Request} {s : State} → length (s .image) ≡ 16384 → 16383 < s .machine .p → Refusal q s wrongP
   of-budget : {q : Request} {s : State} → Good s → 1000000 < q .budget → Refusal q s overBudget
 
--- a run is refused with the number n exactly on n's cause; then it makes no step and changes nothing
+-- a run is refused with the number n exactly on n's cause; then it makes no step and changes nothing (R7, demand 1d, 2b)
 pub record RefusedExactly (q : Request) (s : State) (n : ℕ) : Type 0 where
   pub answer : Refusal q s n → runDef q s ≡ ran 0 (Failed n) s
   pub cause : refused (runDef q s .outcome) ≡ true → runDef q s .outcome ≡ Failed n → Refusal q s n

@@ -24,7 +24,7 @@ pub record Resumed (q : Request) (n m : ℕ) (s : State) : Type 0 where
   pub clock : (k : Clock) → clockAfter (withBudget q n ∷ withBudget q m ∷ []) s k ≡ clockAfter (withBudget q (n + m) ∷ []) s k
   pub outcome : runDef (withBudget q m) (runDef (withBudget q n) s .state) .outcome ≡ runDef (withBudget q (n + m)) s .outcome
 
--- a list of runs is one iteration of the step, for the sum of the budgets not refused; the clock counts its steps
+-- a list of runs is one iteration of the step, for as many steps as it is granted (R10); the clock counts those made (R8)
 pub record AsOne (qs : List Request) (s : State) : Type 0 where
   pub state : runsDef qs s .state ≡ runFrom (runsDef qs s .granted) s .state
   pub steps : runsDef qs s .steps ≡ runFrom (runsDef qs s .granted) s .steps
@@ -36,9 +36,9 @@ pub record RunLaws : Type 0 where
   -- any other run is the iteration of the step up to its budget, from an image of 16,384 words with P in it
   pub allowed : (q : Request) (s : State) → refused (runDef q s .outcome) ≡ false
       → Good s × (q .budget ≤ 1000000) × (runDef q s ≡ runFrom (q .budget) s)
-  -- it made the steps that it reports, and ended as its outcome says
+  -- it made the steps that it reports, and ended as its outcome says: none are made up (C3)
   pub ended : (q : Request) (s : State) → refused (runDef q s .outcome) ≡ false → Ended (q .budget) s (runDef q s)
-  -- "A halted state whose run isn't refused reports halted at any allowed budget, 0 included, unchanged, with 0 steps"
+  -- a halted state stays as it is, whatever the budget (R5)
   pub halted : (q : Request) (s : State) → refused (runDef q s .outcome) ≡ false → s .machine .halted ≡ true → runDef q s ≡ ran 0 Halted s
   -- P stays below 16,384 and the image keeps its 16,384 words, over every step and every run that is not refused
   pub step-keeps : (s t : State) → Good s → stepDef s ≡ made t → Good t
@@ -47,12 +47,12 @@ pub record RunLaws : Type 0 where
   pub resumed : (q : Request) (n m : ℕ) (s : State) → n + m ≤ 1000000 → runDef (withBudget q n) s .outcome ≡ Spent → Resumed q n m s
   -- a list of runs, whatever the requests, refused ones included
   pub list : (qs : List Request) (s : State) → AsOne qs s
-  -- where n steps lead to u, and the budgets not refused add up to n, the list makes just those
+  -- where n steps lead to u, and n are granted, the list makes just those
   pub reached : (qs : List Request) {n : ℕ} {s u : State} → Steps n s u → runsDef qs s .granted ≡ n
       → (runsDef qs s .state ≡ u) × (runsDef qs s .steps ≡ n)
-  -- where the step after those n is a halt, and the budgets add up to more than n, the list makes that step too, and no other
+  -- where the step after those n is a halt, and more than n are granted, the list makes that step too, and no other
   pub halts : (qs : List Request) {n : ℕ} {s u t : State} → Steps n s u → u .machine .halted ≡ false → stepDef u ≡ made t
       → t .machine .halted ≡ true → n < runsDef qs s .granted → (runsDef qs s .state ≡ t) × (runsDef qs s .steps ≡ suc n)
-  -- where n steps can be made, none a halt, and the budgets add up to no more than n, the list makes every step of the budgets and is not halted
+  -- where n steps can be made, none a halt, and no more than n are granted, the list makes every step that it is granted and is not halted
   pub all-made : (qs : List Request) {n : ℕ} {s u : State} → Steps n s u → u .machine .halted ≡ false → runsDef qs s .granted ≤ n
       → (runsDef qs s .state .machine .halted ≡ false) × (runsDef qs s .steps ≡ runsDef qs s .granted)

@@ -1,4 +1,4 @@
--- The machine follows the meaning of a program that is laid.
+-- The machine follows the meaning of a program that stands in its map.
 pub mod Cells
 pub mod Relate
 pub mod Instructions

@@ -1,4 +1,4 @@
--- The acts of the semantics, each one step, by the machine's own effects: "Loads, unary words, operators, shifts, tests and stores act .. in the laid words' order, each as its order does".
+-- The acts of the semantics, in the order of the words, each one step with the effect of the machine's own instruction (M4, M5).
 use Prim.Native.Nat.{ℕ, suc, _+_, _-_, _%_}
 use mathlib.Core.Bool.{Bool, true, false, cond}
 use mathlib.Core.List.{List, [], _∷_}
@@ -29,6 +29,7 @@ store i v σ = stepped (record { cells = updated (σ .cells) i v; registers = σ
 abbrev pub tick : State → State
 tick σ = stepped σ
 
+-- X as a cell, which is the index register too (M1)
 abbrev pub xCell : CellId
 xCell = CellId.named Id.x
 
@@ -51,15 +52,16 @@ valueOf (Place.worth v) σ = v
 abbrev pub loadX : ℕ → State → State
 loadX v σ = store xCell v σ
 
+-- the LDX of a subscript; `#` takes X as it is (E3)
 unfoldable pub subscripted : Subscript → State → State
 subscripted (Subscript.by o) σ = loadX (valueOf (placeOf o) σ) σ
 subscripted Subscript.hash σ = σ
 
--- "A subscript outside its array breaks the meaning off where its LDX stands, or for `#` would stand, X loaded"
+-- the element that X names now; the meaning breaks off here if there is none (M9)
 unfoldable pub element : Array → State → Trace CellId
 element a σ = cond (isInside a (σ .cells xCell)) (Trace.done (CellId.element (a .number) (σ .cells xCell)) σ) (Trace.broke σ)
 
--- an array is entered: X loaded, and the element that it then names
+-- an array is entered: X loaded, unless it is `#`, and the element that it then names (M9)
 unfoldable pub entered : Array → Subscript → State → Trace CellId
 entered a s σ = element a (subscripted s σ)
 
@@ -84,7 +86,7 @@ setX p σ = Trace.done tt (loadX (valueOf p σ) σ)
 abbrev pub generic : ℕ → State → State
 generic slot σ = withRegisters σ (unaryOf slot (σ .registers))
 
--- ".ABS SPL TCA": TCA is skipped if A is not negative
+-- `.ABS`: TCA is skipped if A is not negative (W5)
 unfoldable pub absolute : State → State
 absolute σ = cond (skipsOf SPL (σ .registers) (σ .switches)) (tick σ) (generic TCA (tick σ))
 
@@ -96,7 +98,7 @@ plainOn [] σ = σ
 plainOn (Plain.generic slot ∷ ps) σ = plainOn ps (generic slot σ)
 plainOn (Plain.shift kind n ∷ ps) σ = plainOn ps (shifted kind n σ)
 
--- a test that skips the `JMP false` where it holds
+-- a test, which skips its JMP where it holds (M14)
 unfoldable pub test : ℕ → State → Trace Bool
 test slot σ = cond (skipsOf slot (σ .registers) (σ .switches)) (Trace.done true (tick σ)) (Trace.done false (tick (tick σ)))
 
@@ -104,6 +106,6 @@ test slot σ = cond (skipsOf slot (σ .registers) (σ .switches)) (Trace.done tr
 unfoldable pub jump : Unit {0} → State → Trace (Unit {0})
 jump u σ = Trace.done tt (tick σ)
 
--- "A `.FOR` adds one modulo 65,536 to its counter after the body and stops at zero": whether it goes on
+-- the IRS of a `.FOR`: its counter has one more, and the loop goes on unless that is 0 (M7)
 unfoldable pub counted : CellId → Unit {0} → State → Trace Bool
 counted i u σ = let v = (σ .cells i + 1) % 65536 in cond (eqb v 0) (Trace.done false (store i v σ)) (Trace.done true (store i v σ))

@@ -1,4 +1,4 @@
--- Demand 3: what every list of runs of a loaded machine shows of the meaning.
+-- Demand 3: what every list of runs of a loaded machine shows of the meaning. Each field cites the clause of docs/DEMANDS.md that it sets down.
 use Prim.Native.Nat.{ℕ, suc, _≤_, _<_}
 use mathlib.Core.Path.{_≡_}
 use mathlib.Core.Bool.{true, false}
@@ -24,12 +24,12 @@ Holds σ (Role.cell i v) imageWord word = word ≡ σ .cells i
 Holds σ (Role.link p) imageWord word = word ≡ imageWord
 Holds σ Role.free imageWord word = word ≡ imageWord
 
--- what the meaning starts from: any values but those of the named constants, and nothing done yet
+-- what the meaning starts from: any values but those of the named constants, and nothing done yet (M2)
 pub record Start (p : Program) (σ : State) : Type 0 where
   pub constants : (i : CellId) (v : ℕ) → List·Memᴰ (i, v) (constantsOf p) → σ .cells i ≡ v
   pub begins : σ .steps ≡ 0
 
--- "its image loaded, its integers and array cells, A, B, C, X and keys given any values, and the machine set at the entry"
+-- THE PREMISE: the image is loaded, with the start's values, and the machine stands at the entry, not halted (demand 3a)
 pub record Loaded (c : Compiled) (σ : State) (s : machine.State) : Type 0 where
   pub start : Start (c .program) σ
   pub size : length (s .image) ≡ memoryWords
@@ -39,7 +39,7 @@ pub record Loaded (c : Compiled) (σ : State) (s : machine.State) : Type 0 where
   pub entry : s .machine .p ≡ c .entry
   pub running : s .machine .halted ≡ false
 
--- "the variables, A, B, C and X are those that the meaning has"
+-- the machine has the meaning's A, B and C, and its value in the word of every cell, X among them (demand 3g)
 pub record Shows (p : Program) (σ : State) (s : machine.State) : Type 0 where
   pub registers : s .machine .registers ≡ σ .registers
   pub cells : (k : ℕ) (i : CellId) (v : ℕ) → k < memoryWords → mapAt p k ≡ Role.cell i v → getD (s .image) k 0 ≡ σ .cells i
@@ -80,59 +80,60 @@ Rising low (Trace.observe m t) = (low ≤ m .steps) × Rising (m .steps) t
 
 -- ---- The statement
 
--- a list of runs comes to the meaning's state τ: "just so many steps are made, none a halt, and the variables, A, B, C and X are those that the meaning has"
+-- a list of runs comes to the meaning's state τ: it has made τ's number of steps, none a halt, and shows τ (demand 3f, 3g)
 pub record Meets (p : Program) (τ : State) (t : Total) : Type 0 where
   pub steps : t .steps ≡ τ .steps
   pub running : t .state .machine .halted ≡ false
   pub shows : Shows p τ (t .state)
 
--- every step of the budgets is made, none a halt
+-- every step that was granted is made, none a halt (demand 3i)
 pub record AllMade (t : Total) : Type 0 where
   pub steps : t .steps ≡ t .granted
   pub running : t .state .machine .halted ≡ false
 
--- the list halts where the meaning ended in τ: "one step after it, in the same final values"
+-- the list halts where the meaning ended in τ: by one step more, and shows τ (demand 3h)
 pub record HaltsAfter (p : Program) (τ : State) (t : Total) : Type 0 where
   pub steps : t .steps ≡ suc (τ .steps)
   pub halted : t .state .machine .halted ≡ true
   pub shows : Shows p τ (t .state)
 
 pub data ListEnds (p : Program) (σ : State) (t : Total) : Type 0 where
-  -- "the list halts exactly when the meaning ends and those budgets add up to more than its last number"
+  -- the meaning ends and more is granted than its last number: the list halts (demand 3h)
   halts : (f : ℕ) (τ : State) → Ends τ (meaning f p σ) → τ .steps < t .granted → HaltsAfter p τ t → ListEnds p σ t
-  -- "where it doesn't halt, every step of those budgets is made"
+  -- no end that the meaning comes to is passed: the list goes on, with all its steps made (demand 3i)
   goes-on : ((f : ℕ) (τ : State) → Ends τ (meaning f p σ) → t .granted ≤ τ .steps) → AllMade t → ListEnds p σ t
 
--- "For every list of runs from there": `comes t` says that one of them comes to t
+-- THE STATEMENT, of every list of runs from there: `comes t` says that one of them comes to t (demand 3e)
 pub record Agrees (p : Program) (σ : State) (comes : Total → Type 0) : Type 0 where
-  -- there is one meaning: more fuel only extends what less fuel shows
+  -- there is one meaning: more fuel only extends what less fuel shows (demand 3b)
   pub steady : (f g : ℕ) → f ≤ g → Begins (meaning f p σ) (meaning g p σ)
-  -- "every statement's end that the left-to-right meaning reaches": fuel f shows everything below f steps, so that none is left out
+  -- none is left out: fuel f shows everything below f steps (demand 3c)
   pub complete : (f : ℕ) (τ : State) → RunsOut τ (meaning f p σ) → f ≤ τ .steps
-  -- it "has a number of steps, counted from the entry, in order and the same for every list below": the meaning's own, which no list has a part in
+  -- the numbers of steps are the meaning's own, in which no list has a part, and never fall (demand 3b, 3d)
   pub rising : (f : ℕ) → Rising 0 (meaning f p σ)
-  -- "the variables": every variable that is declared has one home, where the memory is said to show it
+  -- every variable that is declared has one home, the word where the memory is said to show it (demand 3g)
   pub homes : (i : CellId) → List·Memᴰ i (variablesOf p) → Home p i
-  -- "if the budgets not refused add up to such a number, just so many steps are made, none a halt, and the variables, A, B, C and X are those that the meaning has after that statement"
+  -- granted just the number of an observation, a list makes just those steps and shows what is observed (demand 3f, 3g)
   pub observed : (f : ℕ) (τ : State) → Observes τ (meaning f p σ) → (t : Total) → comes t → t .granted ≡ τ .steps → Meets p τ t
-  -- "before any subscript outside its array": where the meaning breaks off at one, X is loaded and the machine still runs,
+  -- where the meaning breaks off, X is loaded and the machine still runs (demand 3j),
   pub broken : (f : ℕ) (τ : State) → Breaks τ (meaning f p σ) → (t : Total) → comes t → t .granted ≡ τ .steps → Meets p τ t
-  -- and budgets that add up to no more than that number are made in full
+  -- and a list that is granted no more than that number makes every step (demand 3j)
   pub until-broken : (f : ℕ) (τ : State) → Breaks τ (meaning f p σ) → (t : Total) → comes t → t .granted ≤ τ .steps → AllMade t
-  -- "If no such subscript is used"
+  -- a meaning that nowhere breaks off: how a list ends (demand 3h, 3i)
   pub ends : ((f : ℕ) (τ : State) → Breaks τ (meaning f p σ) → ⊥) → (t : Total) → comes t → ListEnds p σ t
 
--- "Suppose a recipe is accepted, its image loaded .."
+-- DEMAND 3 over the definitions: of every accepted source and every machine loaded with it (demand 3a, 3e)
 unfoldable pub Demand3 : Type 0
 Demand3 = (source : List ℕ) (c : Compiled) → compileDef source ≡ Result.accepted c → (σ : State) (s : machine.State) → Loaded c σ s → Agrees (c .program) σ (Comes s)
 
 -- ---- Such machines exist
 
--- a word of memory before the start: the image's, or anything where a variable stands
+-- a word of memory before the start: the image's, or anything where a variable stands (demand 3k)
 pub data Fills (c : Compiled) (k word : ℕ) : Type 0 where
   laid : word ≡ getD (c .image) k 0 → Fills c k word
   given : (i : CellId) (v : ℕ) → List·Memᴰ i (variablesOf (c .program)) → mapAt (c .program) k ≡ Role.cell i v → Fills c k word
 
+-- the premise can be met (demand 3k)
 pub record Loads (c : Compiled) : Type 0 where
   pub whole : length (c .image) ≡ memoryWords
   -- a machine set at the entry, whose memory is the image but for any values of the variables, is loaded with some start; by `whole` the image itself is such a memory

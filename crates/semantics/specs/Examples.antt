@@ -42,7 +42,7 @@ end (Trace.broke σ) = ending Ending.broken σ
 end (Trace.out σ) = ending Ending.out σ
 end (Trace.observe m t) = end t
 
--- every cell 0, A 7, no key set
+-- every cell 0, A 7, no sense switch set
 abbrev pub start : State
 start = record {
   cells = λ i. 0;
@@ -57,16 +57,16 @@ shown (Got.failed n at) = ([], Ending.refused n at 0)
 
 abbrev rows : List (String × List ℕ × Ending)
 rows =
-    -- one empty statement: two observations, both at 0 steps
+    -- one empty statement, which is no word (K2): two observations, both at 0 steps (M11)
     (".BEGIN .END", 0 ∷ 0 ∷ [], Ending.done 0 7 0) ∷
-    -- the first recipe: LDA ADD ADD STA
+    -- the first program (K1): LDA ADD ADD STA
     (".BEGIN .INTEGER A; A = 2140 + 1875 + 960 .END", 0 ∷ 4 ∷ [], Ending.done 4 4975 0) ∷
-    -- unary words right to left, before the additions: AOA, TCA, then ADD
+    -- unary words, the last one first, before the additions: AOA, TCA, then ADD (K6)
     (".BEGIN @ = .NEG .INC @ + 10 .END", 0 ∷ 3 ∷ [], Ending.done 3 2 0) ∷
     -- SPL skips TCA
     (".BEGIN @ = .ABS @ .END", 0 ∷ 1 ∷ [], Ending.done 1 7 0) ∷
     (".BEGIN @ = .ABS .NEG @ .END", 0 ∷ 3 ∷ [], Ending.done 3 7 0) ∷
-    -- the end of .IF after its JMP end; of .WHEN where the test fails, after its JMP false
+    -- `.IF` ends after the JMP that closes its first part; `.WHEN`, where the test fails, after its JMP (M12)
     (".BEGIN .IF @ .ODD .THEN @ = 1 .ELSE @ = 2 .END", 0 ∷ 2 ∷ 3 ∷ [], Ending.done 3 1 0) ∷
     (".BEGIN .IF @ .EVEN .THEN @ = 1 .ELSE @ = 2 .END", 0 ∷ 3 ∷ 3 ∷ [], Ending.done 3 2 0) ∷
     (".BEGIN .WHEN @ .ZERO .THEN @ = 1 .END", 0 ∷ 2 ∷ [], Ending.done 2 7 0) ∷
@@ -74,6 +74,8 @@ rows =
     (".BEGIN .INTEGER I; .FOR I = -1 .DO @ = .ZERO .END", 0 ∷ 3 ∷ 4 ∷ [], Ending.done 4 0 0) ∷
     -- one pass from -5 as well, if the body sets the counter to -1
     (".BEGIN .INTEGER I; .FOR I = -5 .DO I = -1 .END", 0 ∷ 4 ∷ 5 ∷ [], Ending.done 5 65535 0) ∷
+    -- three passes from -3, each LDA, ADD, STA: the loop that docs/DEMANDS.md speaks of
+    (".BEGIN .INTEGER I, A; .FOR I = -3 .DO A = A + I .END", 0 ∷ 5 ∷ 10 ∷ 15 ∷ 16 ∷ [], Ending.done 16 65530 0) ∷
     -- two passes from -2, IRS and JMP between them
     (".BEGIN .FOR # = -2 .DO @ = .INC @ .END", 0 ∷ 2 ∷ 5 ∷ 6 ∷ [], Ending.done 6 9 0) ∷
     -- 65,536 passes from 0 are more than the fuel

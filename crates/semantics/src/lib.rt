@@ -5,7 +5,8 @@ pub fn demand_three()
     ensures { λ r. ⌜ Demand3 ⌝ }
 {}
 
-// The theorem is about something: every memory that has the image's words but where variables stand is loaded with a start, and every start has such a memory.
+// The theorem is about something: every memory that has the image's words but where variables stand is loaded with a start, and every start has
+// such a memory (demand 3k).
 pub fn start_exists()
     ensures { λ r. ⌜ Loadable ⌝ }
 {}

@@ -1,4 +1,4 @@
--- Bytes of the source (document 01 calls a source a recipe or a text), and what is asked of lists of them.
+-- Bytes of the source, and what is asked of lists of them.
 use Prim.Native.Nat.{ℕ, suc}
 use Prim.Native.Char.{code}
 use Prim.Native.String.{String, [] as []ˢ, _∷_ as _∷ˢ_}
@@ -7,28 +7,32 @@ use mathlib.Core.List.{List, [], _∷_}
 use lib.Dec.{eqb}
 use Rattle.prelude.specs.Choice.{whether, between}
 
--- a text's bytes: keywords and examples are written as texts
+-- a string's bytes: keywords and examples are written as strings
 abbrev pub bytes : String → List ℕ
 bytes []ˢ = []
 bytes (c ∷ˢ cs) = code c ∷ bytes cs
 
--- "Bytes: A-Z, 0-9, space, newline and .."; the signs are a table in Tokens
+-- the letters, capitals alone (T2); the signs are a table in Tokens
 abbrev pub isLetter : ℕ → Bool
 isLetter b = between 65 90 b
 
+-- the digits (T2)
 abbrev pub isDigit : ℕ → Bool
 isDigit b = between 48 57 b
 
+-- the digits of an octal numeral (T8)
 abbrev pub isOctalDigit : ℕ → Bool
 isOctalDigit b = between 48 55 b
 
+-- what a name goes on with (T7)
 abbrev pub isLetterOrDigit : ℕ → Bool
 isLetterOrDigit b = isLetter b || isDigit b
 
+-- the blanks: space and newline (T2, T3)
 abbrev pub isBlank : ℕ → Bool
 isBlank b = eqb b 32 || eqb b 10
 
--- "Tokens are taken longest": how many of the first bytes pass a test, as many as can
+-- how many of the first bytes pass a test, as many as can (T4)
 unfoldable pub span : (ℕ → Bool) → List ℕ → ℕ
 span p [] = 0
 span p (b ∷ bs) = whether (p b) (λ _. suc (span p bs)) (λ _. 0)

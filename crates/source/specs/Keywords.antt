@@ -1,4 +1,4 @@
--- Keywords: the point-words of document 01.
+-- Keywords: what stands behind a point.
 use Prim.Native.Nat.{ℕ, _+_}
 use mathlib.Core.List.{List, [], _∷_}
 use lib.ListN.{take, drop}
@@ -6,7 +6,7 @@ use Rattle.prelude.specs.Choice.{whether, given, find}
 use Rattle.source.specs.Bytes.{bytes, isLetter, isDigit, span, sameBytes}
 use Rattle.source.specs.Kinds
 
--- "A point-word is a point and letters (`.SENSE` plus one digit), and must be one named here": what follows the point, with its kind
+-- the keywords: what follows the point, with its kind (T6)
 abbrev pub keywords : List (List ℕ × ℕ)
 keywords =
     (bytes "BEGIN", Kinds.BEGIN) ∷ (bytes "END", Kinds.END) ∷ (bytes "INTEGER", Kinds.INTEGER) ∷ (bytes "CONSTANT", Kinds.CONSTANT) ∷ (bytes "COMPCONSTANT", Kinds.COMPCONSTANT) ∷
@@ -21,12 +21,12 @@ keywords =
     (bytes "CSET", Kinds.CSET) ∷ (bytes "NOTC", Kinds.NOTC) ∷ (bytes "SENSE1", Kinds.SENSE1) ∷ (bytes "SENSE2", Kinds.SENSE2) ∷
     (bytes "SENSE3", Kinds.SENSE3) ∷ (bytes "SENSE4", Kinds.SENSE4) ∷ (bytes "ANYKEY", Kinds.ANYKEY) ∷ (bytes "NOKEY", Kinds.NOKEY) ∷ []
 
--- how many bytes after the point belong to its keyword
+-- how many bytes after the point belong to its keyword: its letters, and one digit after `SENSE` (T4, T6)
 unfoldable pub keywordLength : List ℕ → ℕ
 keywordLength bs =
     let n = span isLetter bs in
     whether (sameBytes (take n bs) (bytes "SENSE")) (λ _. n + span isDigit (take 1 (drop n bs))) (λ _. n)
 
--- "unknown .. point-word" is 4: a kind that carries that failure
+-- the kind of a keyword; what is not in the table is unknown, a kind that carries failure 4 (T6, F4)
 unfoldable pub keywordKind : List ℕ → ℕ
 keywordKind keyword = given (find (sameBytes keyword) keywords) (λ row. row .1) (λ _. Kinds.unknown)

@@ -2,7 +2,7 @@
 -- The kind of a keyword is named by its letters.
 use Prim.Native.Nat.{ℕ}
 
--- the end of the source; bad bytes, which carry failure 4; a numeral out of range, which carries failure 5; a name; a constant in figures
+-- the end of the source; unknown bytes, which carry failure 4; a numeral out of range, which carries failure 5; a name; a numeral
 abbrev pub endOfSource : ℕ
 endOfSource = 0
 
@@ -18,7 +18,7 @@ name = 3
 abbrev pub numeral : ℕ
 numeral = 4
 
--- the signs `; , = <> < > <= >= + - ( ) [ ] ' @ #`; a quote or minus with digits is a constant
+-- the signs `; , = <> < > <= >= + - ( ) [ ] ' @ #`; a quote or minus with digits is a numeral
 abbrev pub semicolon : ℕ
 semicolon = 5
 
@@ -130,7 +130,7 @@ AND = 39
 abbrev pub NEV : ℕ
 NEV = 40
 
--- unary keywords
+-- unary words
 abbrev pub ADDC : ℕ
 ADDC = 41
 
@@ -173,7 +173,7 @@ CRIGHT = 53
 abbrev pub ABS : ℕ
 ABS = 54
 
--- shift keywords
+-- shift words
 abbrev pub LGR : ℕ
 LGR = 55
 
@@ -192,7 +192,7 @@ ALS = 59
 abbrev pub ALR : ℕ
 ALR = 60
 
--- single tests
+-- tests of A
 abbrev pub NONZERO : ℕ
 NONZERO = 61
 
@@ -208,7 +208,7 @@ ODD = 64
 abbrev pub EVEN : ℕ
 EVEN = 65
 
--- tests that stand alone
+-- tests that stand alone, of C and of the sense switches
 abbrev pub CSET : ℕ
 CSET = 66
 

@@ -18,38 +18,38 @@ unfoldable pub number : ℕ → ℕ → List ℕ → ℕ
 number base n [] = n
 number base n (d ∷ ds) = number base (base * n + (d - 48)) ds
 
--- a constant's token with its 16 bits, if its digits are up to a limit; else one that carries failure 5, "constant .. out of range"
+-- a numeral's token with its 16 bits, if its number is up to a limit; else one that carries failure 5 (T9, F5)
 unfoldable pub constantToken : ℕ → ℕ → ℕ → ℕ → ℕ → Token
 constantToken n limit word at width = whether (leb n limit) (λ _. token Kinds.numeral word at width) (λ _. token Kinds.outOfRange 0 at width)
 
--- "0 to 32767", from its first digit
+-- decimal digits, up to 32767, from the first one (T8)
 unfoldable pub decimalToken : List ℕ → ℕ → Token
 decimalToken bs at =
     let width = span isDigit bs in
     let n = number 10 0 (take width bs) in
     constantToken n 32767 n at width
 
--- "-1 to -32768 and -0", from after the minus; "that minus with no digit" is the sign alone
+-- a minus and decimal digits, down to -32768, from after the minus; with no digit it is that sign alone (T8, T10)
 unfoldable pub negativeToken : List ℕ → ℕ → Token
 negativeToken bs at =
     let width = span isDigit bs in
     let n = number 10 0 (take width bs) in
     whether (eqb width 0) (λ _. token Kinds.minus 0 at 1) (λ _. constantToken n 32768 ((65536 - n) % 65536) at (suc width))
 
--- "' and octal up to 177777", from after the quote; "A ' with no octal digit next to it" is the sign alone
+-- a quote and octal digits, up to '177777, from after the quote; with no such digit it is that sign alone (T8, T10)
 unfoldable pub octalToken : List ℕ → ℕ → Token
 octalToken bs at =
     let width = span isOctalDigit bs in
     let n = number 8 0 (take width bs) in
     whether (eqb width 0) (λ _. token Kinds.quote 0 at 1) (λ _. constantToken n 65535 n at (suc width))
 
--- a keyword, from after the point
+-- a keyword, from after the point (T6)
 unfoldable pub keywordToken : List ℕ → ℕ → Token
 keywordToken bs at =
     let width = keywordLength bs in
     token (keywordKind (take width bs)) 0 at (suc width)
 
--- "`; , = < > + - ( ) [ ] ' @ # .`. Relations: `= <> < > <= >=`.": those of two bytes stand first, since the longest is taken; minus, quote and point are above
+-- the signs that are tokens by themselves (T5); those of two bytes stand first, since the longest is taken (T4). Minus, quote and point are above
 abbrev pub signs : List (List ℕ × ℕ)
 signs =
     (bytes "<>", Kinds.notEqual) ∷ (bytes "<=", Kinds.atMost) ∷ (bytes ">=", Kinds.atLeast) ∷
@@ -58,14 +58,15 @@ signs =
     (bytes "(", Kinds.leftParenthesis) ∷ (bytes ")", Kinds.rightParenthesis) ∷
     (bytes "[", Kinds.leftBracket) ∷ (bytes "]", Kinds.rightBracket) ∷ (bytes "@", Kinds.at) ∷ (bytes "#", Kinds.hash) ∷ []
 
--- "unknown byte" is 4: a token that carries that failure
+-- a byte that begins no sign is unknown: a token that carries failure 4 (T2, F4)
 unfoldable pub signToken : List ℕ → ℕ → Token
 signToken bs at =
     given (find (λ sign. startsWith sign bs) signs)
     (λ row. token (row .1) 0 at (length (row .0)))
     (λ _. token Kinds.unknown 0 at 1)
 
--- the token of these bytes, whose first is at an offset. "A name is a letter, then letters or digits". A minus here "begins a decimal constant, whose offset is the minus"
+-- the token of these bytes, whose first is at an offset; at the end of the source it has none (T13).
+-- A letter begins a name (T7), and a minus here is a numeral's sign (T11)
 unfoldable pub tokenOf : List ℕ → ℕ → Token
 tokenOf [] at = token Kinds.endOfSource 0 at 0
 tokenOf (b ∷ bs) at =
@@ -76,31 +77,31 @@ tokenOf (b ∷ bs) at =
     whether (eqb b 46) (λ _. keywordToken bs at) λ _.
     signToken (b ∷ bs) at
 
--- the same where "a `-` after a whole term, cell or amount is the operator"
+-- the same where a minus is the operator (T11)
 unfoldable pub operatorOf : List ℕ → ℕ → Token
 operatorOf [] at = tokenOf [] at
 operatorOf (b ∷ bs) at = whether (eqb b 45) (λ _. token Kinds.minus 0 at 1) (λ _. tokenOf (b ∷ bs) at)
 
--- from an offset on, after any spaces and newlines
+-- from an offset of the source on, after any blanks (T1, T3)
 unfoldable pub afterBlanks : (List ℕ → ℕ → Token) → List ℕ → ℕ → Token
 afterBlanks tokenFrom source at =
     let rest = drop at source in
     let blanks = span isBlank rest in
     tokenFrom (drop blanks rest) (at + blanks)
 
--- THE TOKEN AT AN OFFSET, where a minus is no operator
+-- THE TOKEN AT AN OFFSET, where a minus is a numeral's sign (T1, T11)
 unfoldable pub tokenAt : List ℕ → ℕ → Token
 tokenAt source at = afterBlanks tokenOf source at
 
--- the token after a whole term, cell or amount
+-- the token where an operation may stand: after a term, a cell or an amount (T11, T12)
 unfoldable pub operatorAt : List ℕ → ℕ → Token
 operatorAt source at = afterBlanks operatorOf source at
 
--- of a name "the first six count"
+-- the characters of a name that count, its first six (T7)
 unfoldable pub nameOf : List ℕ → Token → List ℕ
 nameOf source t = take 6 (take (t .next - t .at) (drop (t .at) source))
 
--- "at one token the lower number": n, or the token's own failure, 4 for bad bytes and 5 for a constant out of range
+-- the lowest number at a token: n, or the token's own, 4 for unknown bytes and 5 for a numeral out of range (J3, F4, F5)
 unfoldable pub failureAt : Token → ℕ → ℕ
 failureAt t n =
     whether (eqb (t .kind) Kinds.unknown) (λ _. min 4 n) λ _.

@@ -71,14 +71,14 @@ fn operator_of(source: &[u8], at: usize) -> Token
     token_of(source, at)
 }
 
-// The token at an offset, after any blanks, where a minus begins a constant.
+// The token at an offset, after any blanks, where a minus begins a numeral (T11).
 pub fn token_at(source: &[u8], at: usize) -> Token
     ensures { λ r. ⌜ r ≡ tokenAt (now (source .entry)) at ⌝ }
 {
     token_of(source, span::span_end(source, at, Class::Blank))
 }
 
-// The token after a whole term, cell or amount, where a minus is the operator.
+// The token at an offset where an operation may stand: a minus is the operator (T11).
 pub fn operator_at(source: &[u8], at: usize) -> Token
     ensures { λ r. ⌜ r ≡ operatorAt (now (source .entry)) at ⌝ }
 {

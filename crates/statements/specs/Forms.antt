@@ -66,14 +66,15 @@ parseHead source names expr t =
 
 -- ---- What is emitted
 
--- an expression, stored in a cell
+-- an expression, stored in a cell (W12)
 unfoldable pub storedWords : Cell → Expr → WordsAt
 storedWords c e at = exprWords e at ⧺ cellWords STA c
 
--- a cell, loaded to X
+-- a cell, loaded to X (W12)
 unfoldable pub loadedWords : Cell → WordsAt
 loadedWords c at = cellWords LDX c
 
+-- what a `.FOR` does before its body (W13)
 unfoldable pub headWords : Head → WordsAt
 headWords (Head.integer i e) at = storedWords (Cell.plain (Operand.named i)) e at
 headWords (Head.hash c) at = loadedWords c at

@@ -49,7 +49,7 @@ pub fn plain(id: Id) -> Cell
     }
 }
 
-// `=` expression, stored in a cell.
+// `=` expression, stored in a cell (W12).
 pub fn store(
     source: &[u8],
     table: &[u16],
@@ -100,7 +100,7 @@ pub fn element(
     store(source, table, image, context, cell, next, left, output)
 }
 
-// `=` cell, loaded to X.
+// `=` cell, loaded to X (W12).
 pub fn set_x(
     source: &[u8],
     table: &[u16],

@@ -37,7 +37,7 @@ ghost use Rattle.statements.specs.Forms.{stmtAt, guardedAt, ifAt, whenAt
 mod assignment;
 mod counting;
 
-// The levels of nesting: 0 to 32.
+// The levels of nesting: 0 to 32 (S11).
 const LEVELS: usize = 33;
 
 // A part with the token of a kind after it.
@@ -105,7 +105,7 @@ fn guarded(
     }
 }
 
-// `.IF` condition `.THEN` statement `.ELSE` statement.
+// An `.IF` that is a statement (S4, W10).
 fn if_statement(
     source: &[u8],
     table: &[u16],
@@ -152,7 +152,7 @@ fn if_statement(
     second
 }
 
-// `.WHEN` condition `.THEN` statement.
+// `.WHEN` condition `.THEN` statement (W11).
 fn when_statement(
     source: &[u8],
     table: &[u16],
@@ -192,7 +192,7 @@ fn when_statement(
     }
 }
 
-// `.WHILE` condition `.DO` statement.
+// `.WHILE` condition `.DO` statement (W11).
 fn while_statement(
     source: &[u8],
     table: &[u16],
@@ -234,7 +234,7 @@ fn while_statement(
     }
 }
 
-// `.FOR` integer or `#` = its first value, `.DO` statement.
+// `.FOR` integer or `#` = its first value, `.DO` statement (W13).
 fn for_statement(
     source: &[u8],
     table: &[u16],

@@ -142,7 +142,7 @@ width-is : (at n : ℕ) → (at + n) - at ≡ n
 width-is at n = omega arith
 
 module _ (source : List ℕ) (at : ℕ) (h : eqb (tokenAt source at .kind) Kinds.name ≡ true) where
-  -- "A name is a letter, then letters or digits"
+  -- a name has letters and digits alone (T7)
   pub name-all : allNameBytes (nameOf source (tokenAt source at)) ≡ true
   unfolding tokenAt afterBlanks nameOf
   name-all =

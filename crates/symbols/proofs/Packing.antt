@@ -160,7 +160,7 @@ same-unpacked p q =
     (λ h. ap (λ x. sameBytes (unpack x) (unpack q)) (packed-is p q h) ∙ same-self (unpack q))
     (λ h. ap (λ x. samePacked x q) (sym (pack-unpack p) ∙ ap packOf (equal (unpack p) (unpack q) (rw h tt)) ∙ pack-unpack q) ∙ packed-self q)
 
--- "X is predeclared"
+-- X by its packed words (D13)
 pub x-packed : (p : Packed) → isX (unpack p) ≡ samePacked p (record { one = 0o054000; two = 0; three = 0 })
 unfolding isX unpack trimmed beforeTrimmed
 x-packed p = sym (same-unpacked p (record { one = 0o054000; two = 0; three = 0 }))

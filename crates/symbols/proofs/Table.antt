@@ -69,7 +69,7 @@ entries-kept n m t u l h = entries-same n t u one
     one : (i : ℕ) → i < 7 * n → getD t i 0 ≡ getD u i 0
     one i k = sym (getD-take (7 * m) t i 0 (omega arith)) ∙ ap (λ x. getD x i 0) h ∙ getD-take (7 * m) u i 0 (omega arith)
 
--- "513th name alive" is judged by the count
+-- whether too many names are alive is judged by the count (F10)
 pub entries-length : (n : ℕ) (t : List ℕ) → length (entriesOf n t) ≡ n
 unfolding entriesOf
 entries-length zero t = refl

@@ -16,7 +16,7 @@ packed : packOf (bytes "TOTAL") ≡ record { one = 0o052117; two = 0o052101; thr
 unfolding packOf
 packed = refl
 
--- "the first six count"
+-- no more than six characters count (T7)
 six : packOf (nameOf (bytes ".INTEGER LENGTH1;") (token Kinds.name 0 9 7)) ≡ packOf (bytes "LENGTH")
 unfolding packOf nameOf
 six = refl
@@ -37,7 +37,7 @@ held :
 unfolding table entriesOf rowAt unpack trimmed beforeTrimmed entryAt levelOf symbolFrom nextId
 held = refl
 
--- "a local hides a global"
+-- the local hides what its name stands for outside (D14)
 newest : find (sameBytes (bytes "A")) (liveNames 2 table) ≡ some (bytes "A", record { level = Level.inner 4; symbol = Symbol.constant (Id.local 4 0) 9 })
 unfolding table liveNames entriesOf rowAt unpack trimmed beforeTrimmed entryAt levelOf symbolFrom nextId find sameBytes
 newest = refl

@@ -11,7 +11,7 @@ use Rattle.tree.specs.Tree.{Name}
 use Rattle.tree.specs.Symbols.{Symbol, Names, symbolOf}
 use Rattle.symbols.specs.Packing.{packOf, unpack}
 
--- a token with the name that it is looked up by: a numeral stands for its value, as a compconstant's name does
+-- a token with the name that it is looked up by: a numeral stands for its value, as a compconstant's name does (D12, E1)
 unfoldable pub symbolBy : Names → Token → Name → Symbol
 symbolBy names t name =
     whether (eqb (t .kind) Kinds.numeral) (λ _. Symbol.compconstant (t .value)) λ _.

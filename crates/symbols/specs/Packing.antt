@@ -9,7 +9,7 @@ use Rattle.source.specs.Bytes.{isLetterOrDigit}
 use Rattle.tree.specs.Tree.{Name}
 use Rattle.symbols.specs.declared.Packed.{Packed}
 
--- "letters or digits"
+-- letters and digits alone, as in a name (T7)
 unfoldable pub allNameBytes : Name → Bool
 allNameBytes [] = true
 allNameBytes (b ∷ bs) = whether (isLetterOrDigit b) (λ _. allNameBytes bs) (λ _. false)

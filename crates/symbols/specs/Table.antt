@@ -62,7 +62,7 @@ entryAt table at =
 unfoldable pub rowAt : List ℕ → ℕ → Name × Entry
 rowAt table at = (unpack (packedAt table at), entryAt table at)
 
--- THE LIVE NAMES of a table's first so many entries, newest first
+-- THE LIVE NAMES of a table's first so many entries, newest first (D16)
 unfoldable pub entriesOf : ℕ → List ℕ → Names
 entriesOf zero table = []
 entriesOf (suc n) table = rowAt table (entryWords * n) ∷ entriesOf n table

@@ -1,4 +1,4 @@
--- The symbol table (document 01: the names alive): what each live name stands for.
+-- The symbol table: what each live name stands for.
 use Prim.Native.Nat.{ℕ, _+_}
 use mathlib.Core.Bool.{Bool, true, false}
 use mathlib.Core.List.{List, _∷_}
@@ -8,7 +8,7 @@ use Rattle.source.specs.Bytes.{bytes, sameBytes}
 use Rattle.tree.specs.Tree.{Id, Array, Operand, Name, Item, Declaration}
 
 -- what a name stands for: an integer; a constant, with its value; a compconstant; an array; a procedure, by its number, which counts
--- with the globals, and whether it is an accumulator procedure; or nothing known: a name that is not declared, or of the procedure that is being read ("known only after that procedure's `.END`")
+-- with the globals, and whether it is an accumulator procedure; or nothing known: a name not declared, or that of the procedure being read (D15)
 pub data Symbol : Type 0 where
   integer : Id → Symbol
   constant : Id → ℕ → Symbol
@@ -17,7 +17,7 @@ pub data Symbol : Type 0 where
   procedure : ℕ → Bool → Symbol
   unknown : Symbol
 
--- the level of a declaration: global, or in the procedure of a number
+-- the level of a declaration: global, or in the procedure of a number (D14)
 pub data Level : Type 0 where
   outer : Level
   inner : ℕ → Level
@@ -27,19 +27,19 @@ pub record Entry : Type 0 where
   pub level : Level
   pub symbol : Symbol
 
--- as many names may be alive at a time, X not counted
+-- as many names may be alive at a time, X not counted (D16, F10)
 abbrev pub mostNames : ℕ
 mostNames = 512
 
--- the live names, newest first; X is not among them
+-- the live names, newest first; X is not among them (D16)
 abbrev pub Names : Type 0
 Names = List (Name × Entry)
 
--- "X is predeclared"
+-- whether a name is X, which needs no declaration (D13)
 unfoldable pub isX : Name → Bool
 isX name = sameBytes name (bytes "X")
 
--- what a name stands for: the newest entry's, so that "a local hides a global"
+-- what a name stands for: X is an integer (D13), any other is what its newest entry says, so that a local hides what is outside (D14)
 unfoldable pub symbolOf : Names → Name → Symbol
 symbolOf names name =
     whether (isX name) (λ _. Symbol.integer Id.x) λ _.
@@ -47,7 +47,7 @@ symbolOf names name =
 
 -- ---- What a name may be used as
 
--- "a constant's name": its value
+-- a constant or compconstant: its value (D12)
 unfoldable pub asConstant : Symbol → Option ℕ
 asConstant (Symbol.integer i) = none
 asConstant (Symbol.constant i v) = some v
@@ -56,7 +56,7 @@ asConstant (Symbol.array a) = none
 asConstant (Symbol.procedure p accumulator) = none
 asConstant Symbol.unknown = none
 
--- "integer"
+-- an integer, to be assigned to or to count with (S2, S7)
 unfoldable pub asInteger : Symbol → Option Id
 asInteger (Symbol.integer i) = some i
 asInteger (Symbol.constant i v) = none
@@ -65,7 +65,7 @@ asInteger (Symbol.array a) = none
 asInteger (Symbol.procedure p accumulator) = none
 asInteger Symbol.unknown = none
 
--- "integer, constant"
+-- an integer, a constant or a compconstant (E1)
 unfoldable pub asOperand : Symbol → Option Operand
 asOperand (Symbol.integer i) = some (Operand.named i)
 asOperand (Symbol.constant i v) = some (Operand.named i)
@@ -74,7 +74,7 @@ asOperand (Symbol.array a) = none
 asOperand (Symbol.procedure p accumulator) = none
 asOperand Symbol.unknown = none
 
--- "array"
+-- an array, whose elements are cells (E2)
 unfoldable pub asArray : Symbol → Option Array
 asArray (Symbol.integer i) = none
 asArray (Symbol.constant i v) = none
@@ -83,7 +83,7 @@ asArray (Symbol.array a) = some a
 asArray (Symbol.procedure p accumulator) = none
 asArray Symbol.unknown = none
 
--- "a procedure's name": its number
+-- any procedure, to be called as a statement: its number (S9)
 unfoldable pub asProcedure : Symbol → Option ℕ
 asProcedure (Symbol.integer i) = none
 asProcedure (Symbol.constant i v) = none
@@ -92,7 +92,7 @@ asProcedure (Symbol.array a) = none
 asProcedure (Symbol.procedure p accumulator) = some p
 asProcedure Symbol.unknown = none
 
--- "an accumulator procedure"
+-- an accumulator procedure, to be called as a term: its number (D10, E6)
 unfoldable pub asFunction : Symbol → Option ℕ
 asFunction (Symbol.integer i) = none
 asFunction (Symbol.constant i v) = none
@@ -104,7 +104,7 @@ asFunction Symbol.unknown = none
 
 -- ---- Declaring names
 
--- only one procedure is read at a time
+-- whether two levels are one (D14); only one procedure is read at a time
 unfoldable pub sameLevel : Level → Level → Bool
 sameLevel Level.outer Level.outer = true
 sameLevel Level.outer (Level.inner p) = false
@@ -122,25 +122,25 @@ unfoldable pub nextId : Level → ℕ → Id
 nextId Level.outer n = Id.global n
 nextId (Level.inner p) n = Id.local p n
 
--- what an item's name will stand for
+-- what an item's name will stand for (D3, D4)
 unfoldable pub itemSymbol : Scope → Item → Symbol
 itemSymbol scope Item.integer = Symbol.integer (nextId (scope .level) (scope .taken))
 itemSymbol scope (Item.constant v) = Symbol.constant (nextId (scope .level) (scope .taken)) v
 itemSymbol scope (Item.compconstant v) = Symbol.compconstant v
 
--- how many words an item takes: "Compconstants take none."
+-- how many words an item takes: a compconstant has none (D4, A3)
 unfoldable pub wordsTaken : Item → ℕ
 wordsTaken Item.integer = 1
 wordsTaken (Item.constant v) = 1
 wordsTaken (Item.compconstant v) = 0
 
--- the value of an item: "integer 0; constant its value"; a compconstant's too, which no word holds
+-- what an item's word starts with (A3, W16); a compconstant's value too, which no word holds
 unfoldable pub itemValue : Item → ℕ
 itemValue Item.integer = 0
 itemValue (Item.constant v) = v
 itemValue (Item.compconstant v) = v
 
--- of a declaration, how many words of sector 0: globals are numbered by them
+-- of a declaration, how many words of sector 0 (A3): globals are numbered by them
 unfoldable pub globalsOf : Declaration → ℕ
 globalsOf (Declaration.item name item) = wordsTaken item
 globalsOf (Declaration.array name size values) = 1
@@ -152,15 +152,15 @@ unfoldable pub declare : Scope → Name → Symbol → ℕ → Scope
 declare scope name symbol taken =
     record { names = (name, record { level = scope .level; symbol = symbol }) ∷ scope .names; level = scope .level; taken = scope .taken + taken }
 
--- "Other names are known after their item."
+-- the scope after an item: from there on its name is known (D15)
 unfoldable pub declareItem : Scope → Name × Item → Scope
 declareItem scope item = declare scope (item .0) (itemSymbol scope (item .1)) (wordsTaken (item .1))
 
--- the scope of a procedure's locals: the procedure's own name is taken, and not yet known
+-- the scope of a procedure's locals: the procedure's own name is alive, and not yet known (D15, D16)
 unfoldable pub localScope : Scope → Name → Scope
 localScope scope name = record { names = declare scope name Symbol.unknown 0 .names; level = Level.inner (scope .taken); taken = 0 }
 
--- "name twice at one level, or X declared" is 8
+-- whether a name may not be declared: it is X, or is declared at this level already (D13, D14, F8)
 unfoldable pub isTaken : Scope → Name → Bool
 isTaken scope name =
     whether (isX name) (λ _. true) λ _.

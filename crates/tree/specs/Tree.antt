@@ -1,4 +1,4 @@
--- The syntax tree: one constructor for each sentence of document 01. It holds ids and values, no addresses, and no names but those that declarations declare.
+-- The syntax tree: one constructor for each form. It holds ids and values, no addresses, and no names but those that declarations declare.
 use Prim.Native.Nat.{ℕ, _-_}
 use mathlib.Core.Bool.{Bool, true, false, cond}
 use lib.Dec.{eqb, leb, ltb}
@@ -13,7 +13,7 @@ pub data Id : Type 0 where
   global : ℕ → Id
   local : ℕ → ℕ → Id
 
--- a cell of the semantics: an integer or a named constant; an element of an array, by the array's number and the subscript's word
+-- a cell of the semantics: an integer or a named constant; an element of an array, by the array's number and the subscript's word (M1)
 pub data CellId : Type 0 where
   named : Id → CellId
   element : ℕ → ℕ → CellId
@@ -40,61 +40,63 @@ pub record Array : Type 0 where
   pub number : ℕ
   pub size : ℕ
 
--- "subscripts -size to -1"
+-- whether a word is one of the array's subscripts, which are -size to -1 (D7, M9)
 unfoldable pub isInside : Array → ℕ → Bool
 isInside a v = cond (leb (65536 - a .size) v) (ltb v 65536) false
 
--- "integer, constant": by its id; an explicit constant or a compconstant is its value
+-- an operand: an integer or a named constant by its id, a numeral or a compconstant by its value (E1)
 pub data Operand : Type 0 where
   named : Id → Operand
   literal : ℕ → Operand
 
--- "[integer, constant or `#`]. `#` is X as it is."
+-- a subscript: an operand that X is loaded with, or `#`, X as it stands (E3)
 pub data Subscript : Type 0 where
   by : Operand → Subscript
   hash : Subscript
 
--- "Cell: integer, constant, or array[..]"
+-- a cell: an operand, or an element by its array and subscript (E2)
 pub data Cell : Type 0 where
   plain : Operand → Cell
   item : Array → Subscript → Cell
 
 -- ---- Expressions and conditions
 
+-- the unary words (E4)
 pub data Unary : Type 0 where
   addc inc neg ssp ssm chs csa not icleft cleft swop icright cright abs : Unary
 
--- "(`+ - .AND .NEV`)"
+-- the operators that have a cell behind them (E7)
 pub data Operator : Type 0 where
   add subtract and nev : Operator
 
+-- the shift words (E7)
 pub data Shift : Type 0 where
   lgr ars arr lgl als alr : Shift
 
--- "(`+ - .AND .NEV`) cell or shift word with a constant amount 1 to 15"
+-- an operation: an operator with its cell, or a shift with its amount (E7)
 pub data Operation : Type 0 where
   binary : Operator → Cell → Operation
   shift : Shift → ℕ → Operation
 
--- "Relations: `= <> < > <= >=`."
+-- the relations (E8)
 pub data Relation : Type 0 where
   equal notEqual less greater atMost atLeast : Relation
 
--- "expression with `.ZERO .NONZERO .PLUS .MINUS .ODD .EVEN`"
+-- the tests of A (E8)
 pub data Test : Type 0 where
   zero nonzero plus minus odd even : Test
 
--- "or alone `.CSET .NOTC .SENSE1` to `.SENSE4 .ANYKEY .NOKEY`"
+-- the tests of C and of the sense switches, which stand alone (E8)
 pub data Bare : Type 0 where
   cset notc sense1 sense2 sense3 sense4 anykey nokey : Bare
 
 mutual
-  -- "unary words, a term, then any of ..", all in the order of the source. "Or, whole, `.IF` condition `.THEN` expression `.ELSE` expression."
+  -- unary words, a term and operations, all in the order of the source (E4); or a condition with its two parts (E5)
   pub data Expr : Type 0 where
     chain : List Unary → Term → List Operation → Expr
     choose : Cond → Expr → Expr → Expr
 
-  -- "cell, `@` (accumulator A), `.ZERO`, (expression), or a call of an accumulator procedure": "a procedure's name, or name(expression)"
+  -- the terms; a call has its procedure's number, and an argument or none (E6)
   pub data Term : Type 0 where
     cell : Cell → Term
     accumulator : Term
@@ -103,7 +105,7 @@ mutual
     call : ℕ → Term
     callWith : ℕ → Expr → Term
 
-  -- "expression relation cell; expression with ..; or alone .."
+  -- the conditions: a relation, a test of A, a test that stands alone (E8)
   pub data Cond : Type 0 where
     relation : Relation → Expr → Cell → Cond
     test : Test → Expr → Cond
@@ -111,13 +113,13 @@ mutual
 
 -- ---- Statements
 
--- "integer, array element", to the left of `=`
+-- what an assignment stores to, A left out: an integer or an element (S2)
 pub data Target : Type 0 where
   integer : Id → Target
   item : Array → Subscript → Target
 
 mutual
-  -- in the order of the paper: `@ =` is toA, `# =` is setX, `.FOR # =` is forX
+  -- the statements, in the order of their rules (S1 to S10): `@ =` is toA, `# =` is setX, `.FOR # =` is forX
   pub data Stmt : Type 0 where
     empty : Stmt
     assign : Target → Expr → Stmt
@@ -132,31 +134,35 @@ mutual
     callWith : ℕ → Expr → Stmt
     compound : Stmts → Stmt
 
-  -- "statements parted by `;`": one, or some and one more
+  -- statements in a row: one, or some and one more (D1, S10)
   pub data Stmts : Type 0 where
     one : Stmt → Stmts
     more : Stmts → Stmt → Stmts
 
 -- ---- Declarations and a program
 
--- the first six characters of a name
+-- the first six characters of a name (T7)
 abbrev pub Name : Type 0
 Name = List ℕ
 
--- what may be declared at both levels, with its value: "Locals are integers, constants and compconstants"
+-- what may be declared at both levels, with its value (D3, D4, D11)
 pub data Item : Type 0 where
   integer : Item
   constant : ℕ → Item
   compconstant : ℕ → Item
 
--- one declared name, or the next sector; a list of names is as many declarations. An array has its size and initial values;
--- a procedure has whether it is an accumulator procedure, its locals and its statements
+-- one declared name, or the next sector; a list of names is as many declarations
 pub data Declaration : Type 0 where
+  -- an integer, a constant or a compconstant (D3, D4)
   item : Name → Item → Declaration
+  -- with its size and initial values (D5)
   array : Name → ℕ → List ℕ → Declaration
+  -- with whether it is an accumulator procedure, its locals and its statements (D9, D10)
   procedure : Name → Bool → List (Name × Item) → Stmts → Declaration
+  -- without a name (D8)
   nextSector : Declaration
 
+-- the declarations, and the statements of the main body (D1)
 pub record Program : Type 0 where
   pub declarations : List Declaration
   pub main : Stmts

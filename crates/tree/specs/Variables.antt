@@ -1,4 +1,4 @@
--- The cells that a program declares: its variables ("integers, locals too, and array elements"), and its named constants with their values.
+-- The cells that a program declares: its variables, and its named constants with their values (M2).
 use Prim.Native.Nat.{ℕ, zero, suc, _+_, _-_}
 use mathlib.Core.List.{List, [], _∷_, _++_}
 use Rattle.tree.specs.Symbols.{wordsTaken}
@@ -20,7 +20,7 @@ unfoldable pub localsBy : {A : Type 0} → (Id → Item → List A) → ℕ → 
 localsBy cells p n [] = []
 localsBy cells p n (l ∷ ls) = cells (Id.local p n) (l .1) ++ localsBy cells p (n + wordsTaken (l .1)) ls
 
--- the elements of an array, from a subscript on
+-- the elements of an array, from a subscript on (D7)
 unfoldable pub elementsOf : ℕ → ℕ → ℕ → List CellId
 elementsOf number subscript zero = []
 elementsOf number subscript (suc n) = CellId.element number subscript ∷ elementsOf number (suc subscript) n
@@ -32,9 +32,10 @@ declaredBy cells elements n (Declaration.array name size values ∷ ds) = elemen
 declaredBy cells elements n (Declaration.procedure name accumulator locals body ∷ ds) = localsBy cells n 0 locals ++ declaredBy cells elements (suc n) ds
 declaredBy cells elements n (Declaration.nextSector ∷ ds) = declaredBy cells elements n ds
 
--- X is a variable too
+-- the variables, X among them (M2)
 unfoldable pub variablesOf : Program → List CellId
 variablesOf p = CellId.named Id.x ∷ declaredBy itemVariables (λ number size. elementsOf number (65536 - size) size) 0 (p .declarations)
 
+-- the named constants, each with the value that every start gives it (M2)
 unfoldable pub constantsOf : Program → List (CellId × ℕ)
 constantsOf p = declaredBy itemConstants (λ number size. []) 0 (p .declarations)

@@ -1,4 +1,4 @@
--- Words of 16 bits are numbers below 65536. Sums, differences and comparisons, as document 01's "Order table" has them.
+-- Words of 16 bits are numbers below 65536: their sums, differences and comparisons.
 --
 use Prim.Native.Nat.{ℕ, _+_, _-_, _%_}
 use mathlib.Core.Bool.{Bool, true, cond}
@@ -20,17 +20,18 @@ negative w = leb 32768 w
 abbrev pub biased : ℕ → ℕ
 biased w = (w + 32768) % 65536
 
--- a signed value, given plus 65536, is below -32768 or above 32767
+-- a signed value, given plus 65536, is below -32768 or above 32767 (I9)
 abbrev pub overflows : ℕ → Bool
 overflows n = cond (ltb n 32768) true (leb 98304 n)
 
--- "modulo 65,536; C becomes 1 exactly on signed overflow, else 0"
+-- the sum, wrapped to a word, and C for its overflow (I6, I9)
 unfoldable pub sumOf : ℕ → ℕ → Flagged
 sumOf a v = flagged ((a + v) % 65536) (overflows (biased a + biased v))
 
+-- the difference likewise (I6, I9)
 unfoldable pub differenceOf : ℕ → ℕ → Flagged
 differenceOf a v = flagged ((a + 65536 - v) % 65536) (overflows (biased a + 65536 - biased v))
 
--- "CAS compares signed: greater skips 0, equal 1, less 2"
+-- how many words CAS skips where A is a: by the signed values (I8, K6)
 unfoldable pub compareOf : ℕ → ℕ → ℕ
 compareOf a v = cond (ltb (biased v) (biased a)) 0 (cond (eqb (biased a) (biased v)) 1 2)

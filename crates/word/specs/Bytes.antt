@@ -1,4 +1,4 @@
--- The byte moves of document 01's "Order table": "On bytes (a,b): ICA (b,a), CAL (0,b), CAR (a,0), ICR (b,0), ICL (0,b)".
+-- The five moves of a word's bytes (I10).
 --
 use Prim.Native.Nat.{ℕ, _+_, _*_, _/_, _%_}
 

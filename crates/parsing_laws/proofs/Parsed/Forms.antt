@@ -57,7 +57,7 @@ module _ (source : List ℕ) {x : Context} {names : Names} (known : NamesOk x na
   unfolding constantOf nameAs refuse andThen failAt
   no-constant f t e = rw e
 
-  -- a constant, judged by its value: where the text has ended there is none
+  -- a constant, judged by its value: where the source has ended there is none
   pub judged : {A : Type 0} {P : A → Type 0} {f : ℕ → ℕ → Got A} {at : ℕ} → at ≤ length source
       → ((Ended (tokenAt source at) → ⊥) → (v : ℕ) → IsWord v → Parses source P (f v)) → Parsed source P (andThen (parseConstant source names at) f)
   unfolding parseConstant

@@ -72,7 +72,7 @@ module _ (source : List ℕ) {at : ℕ} (h : at ≤ length source) where
 
 -- ---- Failures
 
--- "the lower number" is one of reading too
+-- the lower of two numbers is one of reading too (J3)
 lower : (t : Token) (n : ℕ) → 4 ≤ n → (4 ≤ failureAt t n) × (failureAt t n ≤ n)
 unfolding failureAt
 lower t n h =
@@ -82,19 +82,19 @@ lower t n h =
     P : ℕ → Type 0
     P m = (4 ≤ m) × (m ≤ n)
 
--- where the text has ended the number is as it was
+-- where the source has ended the number is as it was
 unlowered : (t : Token) (n : ℕ) → Ended t → failureAt t n ≡ n
 unfolding failureAt
 unlowered t n e = rw e
 
--- the text has ended at a token, or not
+-- the source has ended at a token, or not
 by-end : {Q : Type 0} (t : Token) → (Ended t → Q) → ((Ended t → ⊥) → Q) → Q
 by-end {Q = Q} t f g =
     choice (λ (b : Bool). Q) (eqb (t .kind) Kinds.endOfSource) true false
     (λ e. f (eqb-true (t .kind) Kinds.endOfSource e)) (λ e. g (eqb-false (t .kind) Kinds.endOfSource e))
 
 module _ {source : List ℕ} {t : Token} (i : Held source t) {A : Type 0} {P : A → Type 0} where
-  -- a failure at a token: 6 if that token is the text's end
+  -- a failure at a token: 6 if that token is the source's end
   fails-by : (n : ℕ) → 4 ≤ n → n ≤ 14 → (Ended t → n ≡ 6) → Parsed source P (failAt t n)
   unfolding failAt
   fails-by n h k e =
@@ -109,11 +109,11 @@ module _ {source : List ℕ} {t : Token} (i : Held source t) {A : Type 0} {P : A
   pub fails : (n : ℕ) → (Ended t → ⊥) → 4 ≤ n → n ≤ 14 → Parsed source P (failAt t n)
   fails n b h k = fails-by n h k (λ z. absurd (b z))
 
-  -- "token not allowed there .., or text ended"
+  -- a token that may not stand there, or the source's end (F6)
   pub not-allowed : Parsed source P (failAt t 6)
   not-allowed = fails-by 6 (omega arith) (omega arith) (λ z. refl)
 
-  -- what fails so at the text's end need be looked at only where the text has not ended
+  -- what fails so at the source's end need be looked at only where the source has not ended
   pub unless-ended : {g : Got A} → (Ended t → g ≡ failAt t 6) → ((Ended t → ⊥) → Parsed source P g) → Parsed source P g
   unless-ended e h = by-end t (λ z. rw (e z) not-allowed) h
 

@@ -60,7 +60,7 @@ numbered source n at e = by (parseProgram source) (outcome source) e
         let k : i ≡ at = cc in
         rw (← j, ← k) f
 
--- a text that compiles is no longer than 8,192 bytes
+-- a source that compiles is no longer than 8,192 bytes
 pub short-enough : (source : List ℕ) (c : Compiled) → compileDef source ≡ Result.accepted c → length source ≤ 8192
 unfolding compileDef resultOf
 short-enough source c e = by (parseProgram source) (outcome source) e

@@ -1,4 +1,4 @@
--- "A `.FOR` .. from -1 one pass, from 0 65,536": with an empty body it ends after as many passes as its counter is below 65,536, and not before.
+-- How many passes a `.FOR` makes (M7): with an empty body it ends after as many as its counter is below 65,536, and not before.
 use Prim.Native.Nat.{ℕ, zero, suc, _+_, _%_, _<_}
 use mathlib.Core.Path.{_≡_}
 use mathlib.Core.Bool.{Bool, true, false}

@@ -109,7 +109,7 @@ module _ (c : Compiled) (a : Accepted c) (m : Machine) (memory : List ℕ) (fill
   laid-value : (k : ℕ) → getD (c .image) k 0 ≡ initial (mapAt p k)
   laid-value k = ap (λ (d : Compiled). getD (d .image) k 0) (a .is) ∙ image-is p k
 
-  -- a constant's word is as it was laid, since no variable stands there
+  -- a constant's word is as it was emitted, since no variable stands there
   constant-kept : (i : CellId) (v : ℕ) → List·Memᴰ (i, v) (constantsOf p) → startOf .cells i ≡ v
   constant-kept i v h =
       let s = constant-home p (a .well-formed) (i, v) h in

@@ -1,4 +1,4 @@
--- Demand 3 at three recipes: one that ends, one that never ends, one that breaks off.
+-- Demand 3 at three programs: one that ends, one that never ends, one that breaks off.
 use Prim.Native.Nat.{ℕ, zero, suc, _≤_, _<_}
 use mathlib.Core.Path.{_≡_, refl, sym, ap, subst, _∙_}
 use mathlib.Core.Bool.{Bool, true, false, cond, not}
@@ -126,7 +126,7 @@ no-break out b = out-not b refl
     out-not (Breaks.later e) d = let z : _≡_ {A = ℕ} 0 1 = cc in omega arith
 no-break (on t) (Breaks.later b) = no-break t b
 
--- a loop whose test holds while no key is set, and whose body is empty
+-- a loop whose test holds while no sense switch is set, and whose body is empty
 Quiet : State → Type 0
 Quiet σ = σ .switches ≡ start .switches
 

@@ -1,4 +1,4 @@
--- Which instructions read, act on A and C, or skip: those that the forms are laid as.
+-- Which instructions read, act on A and C, or skip: those that the forms become.
 use mathlib.Core.Path.{refl}
 use mathlib.Core.List.{List, [], _∷_}
 use mathlib.Core.Option.{Option, some, none}

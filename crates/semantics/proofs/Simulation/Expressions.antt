@@ -1,4 +1,4 @@
--- Calls, expressions and conditions, laid, are followed by the machine, by the nesting left.
+-- The machine follows calls, expressions and conditions, where they stand in the map, by the nesting left.
 use Prim.Native.Nat.{ℕ, zero, suc, _+_, _≤_, _<_}
 use mathlib.Core.Path.{_≡_, _∙_}
 use mathlib.Core.List.{List}
@@ -40,7 +40,7 @@ module _ (M : Map) (sound : Sound M) (s₀ : machine.State) (N fuel : ℕ) where
         (λ r₁ k₁ n₁. pend-other κ q r₁ (suc a) n₁ ∙ idle r₁ k₁) (omega arith) (do-call M sound s₀ h r w) in
         lower M sound s₀ (le₁ (σ .steps)) (relax M sound s₀ (λ u σ₁ m₁ h₁. forget M sound s₀ q (suc a) (idle q knows) h₁) back)
 
-    -- a meaning of those expressions that are ok, followed wherever they are laid
+    -- a meaning of those expressions that are ok, followed wherever they stand
     abbrev pub ExprsFollow : (Expr → Type 0) → (Expr → State → Trace (Unit {0})) → Type 0
     ExprsFollow ok expr = (e : Expr) (a b : ℕ) → ok e → LaidExpr M ps e a b → (σ : State) (m : List ℕ) → N ≤ σ .steps + fuel → At M sound s₀ κ a σ m
         → Follows M sound s₀ N κ b (σ .steps) (expr e σ)

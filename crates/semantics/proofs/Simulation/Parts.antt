@@ -1,4 +1,4 @@
--- The parts of forms that hold no expression or statement, laid, are followed by the machine: cells, unary words, operations, tests, relations, ends.
+-- The machine follows the parts of forms that hold no expression or statement, where they stand in the map: cells, unary words, operations, tests, relations, ends.
 use Prim.Native.Nat.{ℕ, zero, suc, _+_, _%_, _≤_, _<_}
 use mathlib.Core.Path.{_≡_, sym, subst}
 use mathlib.Core.Bool.{Bool, true, false}

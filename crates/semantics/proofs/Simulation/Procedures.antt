@@ -1,4 +1,4 @@
--- The procedures that a program declares, laid, are followed by the machine.
+-- The machine follows the procedures that a program declares, where they stand in its map.
 use Prim.Native.Nat.{ℕ, _+_}
 use mathlib.Core.List.{List, [], _∷_, _++_}
 use Rattle.machine.specs.State as machine
@@ -40,7 +40,7 @@ bodies-ok DeclarationsOk.none = tt
 bodies-ok (DeclarationsOk.more ds d h o) = bodies-more ds d (bodies-ok h) (body-ok _ _ d o)
 
 module _ (M : Map) where
-  -- ---- Procedures laid, the earlier ones first
+  -- ---- Procedures in the map, the earlier ones first
 
   record Latest (ps : Known) (n : ℕ) (body : Stmts) : Type 0 where
     laid : LaidProcedure M ps n body

@@ -1,4 +1,4 @@
--- THE SIMULATION. The machine follows the meaning of a part that is laid from p to p' (memory_map/specs/Laid): whatever the meaning does, the machine does, in as many steps as the meaning counts.
+-- THE SIMULATION. The machine follows the meaning of a part that stands in the map from p to p' (memory_map/specs/Laid): whatever the meaning does, the machine does, in as many steps as the meaning counts.
 --
 --        meaning         σ ───────── the part's acts ─────────▶ σ'
 --                        │                                      │

@@ -1,4 +1,4 @@
--- Loops, statements and procedures, laid, are followed by the machine: statements by the nesting left, procedures one after the other.
+-- The machine follows loops, statements and procedures, where they stand in the map: statements by the nesting left, procedures one after the other.
 use Prim.Native.Nat.{ℕ, zero, suc, _+_, _≤_, _<_}
 use mathlib.Core.Path.{_≡_, refl, sym, subst, _∙_}
 use mathlib.Core.Bool.{Bool, false, cond}
@@ -57,7 +57,7 @@ module _ (M : Map) (sound : Sound M) (s₀ : machine.State) (N fuel : ℕ) where
   -- ---- Statements
 
   module _ (x : Context) (ps : Known) (procedures : Procedures) (obeys : Obeys M sound s₀ N fuel ps procedures) (κ : Links) (idle : Idle ps κ) where
-    -- a meaning of those statements that are ok, followed wherever they are laid
+    -- a meaning of those statements that are ok, followed wherever they stand
     abbrev StmtsFollow : (Stmt → Type 0) → (Stmt → State → Trace (Unit {0})) → Type 0
     StmtsFollow ok stmt = (s : Stmt) (a b : ℕ) → ok s → LaidStmt M ps s a b → (σ : State) (m : List ℕ) → N ≤ σ .steps + fuel → At M sound s₀ κ a σ m
         → Follows M sound s₀ N κ b (σ .steps) (stmt s σ)

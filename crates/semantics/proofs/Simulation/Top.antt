@@ -1,4 +1,4 @@
--- Demand 3 for every program that is laid: it agrees with its meaning under every list of runs.
+-- Demand 3 for every program that stands in a memory map: it agrees with its meaning under every list of runs.
 use Prim.Native.Nat.{ℕ, suc, _≤_, _<_}
 use mathlib.Core.Path.{_≡_, refl, ap, subst, _∙_}
 use mathlib.Core.Bool.{false}
