@@ -1,33 +1,37 @@
 #!/usr/bin/env python3
 """Holds docs/REFERENCE.md, docs/DEMANDS.md and docs/COVERAGE.md against the crates. Reads files only; takes a second or two.
 
-    python3 tests/reference.py
+    python3 tests/reference.py            says what does not fit; status 1 if there is anything to say
+    python3 tests/reference.py T7 3f      prints the places that cite these numbers
 
 Says which number is cited and does not exist, in comments and documents; which rule or clause has no row of coverage, no definition,
-or a definition that does not cite it; and which row names something that is not there. Ends with status 1 if there is anything to say.
+or a definition that does not cite it; which row names something that is not there; and which link of a document leads nowhere.
+It compares numbers and names, not what they say: whether a definition does what its rule says is for a reader, and for what the row names.
 
+A number is cited in a comment by `(T3)`, `(T3, W5)`, `(R2 to R7)` or `(demand 3f)`; in a document anywhere but in backquotes.
 A row of coverage is `| number | definitions | what would fail |`. Both lists are groups parted by `; `, each a place and names in backquotes:
 
     crate/File `name`, ..             specs/File.antt of a crate; the definition, law, field or example of that name
     crate/proofs/File `name`, ..      the same in proofs/
     crate::module::function           a function with its contract in src/
     edits of crate `name`, ..         must-fail edits
-    texts `text`, ..                  rows of the table in grammar/specs/Failures.antt
+    sources `text`, ..                rows of the table in grammar/specs/Failures.antt
     proved `row`, ..                  rows of the table in proved_cases/specs/Table.antt
     listings N, N to M, ..            outside listings, by number
     machine_cases `case`, ..          cases of that program, and so for paper_cases
     the program NAME                  a program whose output is stored and compared
-    page FILE.md `heading`            a heading of a page of docs/
+    page FILE.md `heading`            a heading of a page of docs/, up to a backquote in it
+    nothing: why                      in the last column, where no check can see the rule broken
+
+The definitions of a row have at least one `crate/File`, or are a page.
 """
 import pathlib
 import re
 import sys
 
 TOP = pathlib.Path(__file__).resolve().parent.parent
-GROUPS = "TDESWAIRFJPMKC"
-RULE = re.compile(rf"(?<![\w'/.-])([{GROUPS}]\d{{1,2}})(?![\w-])")
-CLAUSES = re.compile(r"demand ([123][a-z](?:(?:, | to | and )[123][a-z])*)")
-DEMANDS_CLAUSE = re.compile(r"(?<![\w./-])([123][a-z])(?![\w-])")
+RULE = re.compile(r"(?<![\w'/.-])([A-Z]\d+)(?![\w-])")
+CLAUSE = re.compile(r"(?<![\w'/.-])(\d[a-z])(?![\w-])")
 HEAD = re.compile(r"^(\s*)(?:(?:unfoldable|abbrev|infixr|pub|data|record|\d+) )*([^\s:({]+)((?: [({].*)?|) :(?: |$)")
 
 problems = []
@@ -44,18 +48,24 @@ def read(path):
 # ---- Numbers
 
 def numbered(path, pattern):
-    found = {}
+    """The numbers that a page gives out, one a line."""
+    found = set()
     for n, line in enumerate(read(path).splitlines(), 1):
-        match = re.match(rf"- \*\*({pattern})\*\* ", line)
-        if match:
-            if match.group(1) in found:
-                problem(f"docs/{path.name}:{n}", f"{match.group(1)} stands twice")
-            found[match.group(1)] = n
+        match = re.match(rf"- \*\*({pattern})\*\*(.*)", line)
+        if not match:
+            continue
+        number, text = match.groups()
+        if number in found:
+            problem(f"docs/{path.name}:{n}", f"{number} stands twice")
+        if not text.strip():
+            problem(f"docs/{path.name}:{n}", f"{number} says nothing")
+        found.add(number)
     return found
 
 
-def gaps(rules):
-    for group in GROUPS.replace("F", ""):
+def check_gaps(rules):
+    """Within a group numbers are counted up; those of F are the failures' own."""
+    for group in sorted({rule[0] for rule in rules} - {"F"}):
         numbers = sorted(int(rule[1:]) for rule in rules if rule[0] == group)
         if numbers != list(range(1, len(numbers) + 1)):
             problem("docs/REFERENCE.md", f"the numbers of group {group} are not 1 to {len(numbers)}")
@@ -63,49 +73,57 @@ def gaps(rules):
 
 # ---- Citations
 
-def comment(line):
-    """The comment of a line of code, or nothing."""
-    match = re.search(r"(?:^|\s)(?:--|//)(?:\s|$)(.*)", line)
-    return match.group(1) if match else ""
+def cited(text):
+    """The numbers in a text; `R2 to R7` and `3b to 3j` stand for all between as well."""
+    found = {*RULE.findall(text), *CLAUSE.findall(text)}
+    for group, first, last in re.findall(r"\b([A-Z])(\d+) to \1(\d+)\b", text):
+        found.update(f"{group}{n}" for n in range(int(first), int(last) + 1))
+    for demand, first, last in re.findall(r"\b(\d)([a-z]) to \1([a-z])\b", text):
+        found.update(f"{demand}{chr(n)}" for n in range(ord(first), ord(last) + 1))
+    return found
 
 
-def prose(line):
+def in_comment(line):
+    """What is cited in the comment of a line of code: in brackets, with nothing but numbers in them."""
+    match = re.search(r"(?:^|\s)(?:--|//|#)(?:\s|$)(.*)", line)
+    brackets = re.findall(r"\((?:demand )?((?:[A-Z]\d+|\d[a-z])(?:(?:, | to | and |, demand )(?:[A-Z]\d+|\d[a-z]))*)\)", match.group(1)) if match else []
+    return set().union(*map(cited, brackets))
+
+
+def unquoted(line):
     """A line of a document without what stands in backquotes."""
     return re.sub(r"`[^`]*`", "", line)
 
 
-def cited(text):
-    """The numbers in a text; `R2 to R7` and `demand 3b to 3j` stand for all between as well."""
-    found = set(RULE.findall(text))
-    for group, first, last in re.findall(rf"\b([{GROUPS}])(\d+) to \1(\d+)\b", text):
-        found.update(f"{group}{n}" for n in range(int(first), int(last) + 1))
-    for clauses in CLAUSES.findall(text):
-        found.update(re.findall(r"[123][a-z]", clauses))
-        for demand, first, last in re.findall(r"([123])([a-z]) to \1([a-z])", clauses):
-            found.update(f"{demand}{chr(n)}" for n in range(ord(first), ord(last) + 1))
-    return found
+def in_prose(line):
+    return cited(unquoted(line))
 
 
-def sources():
-    for suffix in ("antt", "rt"):
-        for path in sorted((TOP / "crates").rglob(f"*.{suffix}")):
-            if "target" not in path.parts:
-                yield path, comment
-    for path in [TOP / "README.md", *sorted((TOP / "docs").rglob("*.md")), *sorted((TOP / "tests").glob("*.md"))]:
-        yield path, prose
+def citations():
+    """Every citation: the file, the line's number, and the numbers cited there."""
+    code = [path for suffix in ("antt", "rt", "edit") for path in sorted((TOP / "crates").rglob(f"*.{suffix}")) if "target" not in path.parts]
+    pages = [TOP / "README.md", *sorted((TOP / "docs").rglob("*.md")), *sorted((TOP / "tests").glob("*.md"))]
+    for part, paths in ((in_comment, code), (in_prose, pages)):
+        for path in paths:
+            for n, line in enumerate(read(path).splitlines(), 1):
+                for number in sorted(part(line)):
+                    yield path.relative_to(TOP), n, number
 
 
 def check_citations(known):
     count = 0
-    for path, part in sources():
-        for n, line in enumerate(read(path).splitlines(), 1):
-            numbers = cited(part(line))
-            if path.name == "DEMANDS.md":
-                numbers.update(DEMANDS_CLAUSE.findall(part(line)))
-            count += len(numbers)
-            for number in sorted(numbers - known):
-                problem(f"{path.relative_to(TOP)}:{n}", f"cites {number}, which does not exist")
+    for path, n, number in citations():
+        count += 1
+        if number not in known:
+            problem(f"{path}:{n}", f"cites {number}, which does not exist")
     return count
+
+
+def check_links():
+    for path in [TOP / "README.md", *sorted((TOP / "docs").rglob("*.md"))]:
+        for target in re.findall(r"\]\(([^)#]+)", unquoted(read(path))):
+            if "://" not in target and not (path.parent / target).exists():
+                problem(path.relative_to(TOP), f"links to {target}, which is not there")
 
 
 # ---- Definitions and what they cite
@@ -120,59 +138,51 @@ class Definitions:
         header = 0
         while header < len(lines) and lines[header].startswith("--"):
             header += 1
-        common = cited(" ".join(map(comment, lines[:header])))
-        above, owner, owner_indent, member = set(), None, 0, None
+        common = set().union(*map(in_comment, lines[:header]))
+        above, owner, owner_indent, owner_has_parts = set(), None, 0, False
         for line in lines[header:]:
             text = line.strip()
             if text.startswith("--"):
-                above |= cited(comment(text))
+                above |= in_comment(text)
                 continue
-            if not text:
-                above, member = set(), None
+            if not text or re.match(r"(unfoldable )?(module|mutual)\b", text):
+                above = set()
+                owner = owner if not text else None
                 continue
             indent = len(line) - len(line.lstrip())
-            if re.match(r"(unfoldable )?(module|mutual)\b", text):
-                owner, above = None, set()
-                continue
             match = HEAD.match(line)
-            inside = owner is not None and indent > owner_indent and "record" in owner[1]
             if match and not text.startswith(("use ", "unfolding ")):
                 name = match.group(2)
                 self.cites.setdefault(name, set()).update(common | above)
-                if inside:
-                    self.cites[owner[0]] |= above
+                if owner and indent > owner_indent and owner_has_parts:
+                    self.cites[owner] |= above
                 else:
-                    owner, owner_indent = (name, "record" if re.search(r"\b(data|record)\b.* where$", text) else ""), indent
-                member = name
-            elif owner is not None:
-                self.cites[owner[0]] |= above
+                    owner, owner_indent, owner_has_parts = name, indent, bool(re.search(r"\b(data|record)\b.* where$", text))
+            elif owner:
+                self.cites[owner] |= above
             above = set()
 
 
 cache = {}
 
 
-def definitions(path):
+def definitions(place):
+    """The declarations of `crate/File`, or None where there is no such file."""
+    crate, _, file = place.partition("/")
+    path = TOP / "crates" / crate / ("" if file.startswith("proofs/") else "specs") / f"{file}.antt"
     if path not in cache:
-        cache[path] = Definitions(path) if path.exists() else None
+        cache[path] = Definitions(path) if file and path.exists() else None
     return cache[path]
 
 
-# ---- Rows of coverage
+# ---- What the groups of a row name: each function answers what of them is not there
 
 def names(text):
     return re.findall(r"`([^`]+)`", text)
 
 
-def groups(column):
-    """The groups of a column: a `;` in backquotes parts none."""
-    return [group.strip() for group in re.findall(r"(?:[^;`]|`[^`]*`)+", column)]
-
-
-def file_of(place):
-    crate, _, file = place.partition("/")
-    folder = TOP / "crates" / crate
-    return folder / f"{file}.antt" if file.startswith("proofs/") else folder / "specs" / f"{file}.antt"
+def absent(wanted, there):
+    return [name for name in wanted if name not in there]
 
 
 def stored(crate):
@@ -180,16 +190,16 @@ def stored(crate):
     return (TOP / "crates" / crate / "stdout").read_text(encoding="latin-1").splitlines()
 
 
-def absent(wanted, there):
-    return [name for name in wanted if name not in there]
-
-
 def function(place):
-    """A function that is not there, or has no contract."""
-    crate, *_, name = place.split("::")
-    code = "".join(map(read, (TOP / "crates" / crate / "src").glob("*.rt")))
-    match = re.search(rf"pub (?:extern \"C\" )?fn {name}\(.*?\n\{{", code, re.S)
-    return [] if match and "ensures" in match.group() else [place]
+    """A function that is not there, or has no contract: its head ends with the line that opens its body."""
+    crate, *module, name = place.split("::")
+    path = TOP / "crates" / crate / "src" / f"{'/'.join(module) or 'lib'}.rt"
+    lines = read(path).splitlines() if path.exists() else []
+    for n, line in enumerate(lines):
+        if re.match(rf'pub (extern "C" )?fn {name}\(', line):
+            head = lines[n:next(m for m in range(n, len(lines)) if re.match(r"(\{.*|(?!\s*(ensures|requires)).* \{)$", lines[m])) + 1]
+            return [] if any(re.match(r"\s+ensures ", part) for part in head) else [place]
+    return [place]
 
 
 def edits(rest):
@@ -197,7 +207,7 @@ def edits(rest):
     return absent(names(rest), {path.stem for path in folder.glob("*.edit")})
 
 
-def texts(rest):
+def failure_rows(rest):
     return absent(names(rest), re.findall(r'^ *\("(.*)", \d+, \d+\)', read(TOP / "crates/grammar/specs/Failures.antt"), re.M))
 
 
@@ -206,14 +216,14 @@ def proved(rest):
 
 
 def listings(rest):
-    there, absentees = set(stored("listing_vectors")), []
+    there, gone = set(stored("listing_vectors")), []
     for first, last in re.findall(r"(\d{3})(?: to (\d{3}))?", rest):
-        absentees += absent((f"case {n}" for n in range(int(first), int(last or first) + 1)), there)
-    return absentees
+        gone += absent((f"case {n}" for n in range(int(first), int(last or first) + 1)), there)
+    return gone if re.search(r"\d{3}", rest) else ["a listing's number"]
 
 
-def cases(program):
-    return lambda rest: absent(names(rest), {line.partition(": ")[0] for line in stored(program)})
+def cases(crate):
+    return lambda rest: absent(names(rest), {line.partition(": ")[0] for line in stored(crate)})
 
 
 def program(rest):
@@ -222,12 +232,12 @@ def program(rest):
 
 def page(rest):
     path = TOP / "docs" / rest.split(" ")[0]
-    return [rest] if not path.exists() else [name for name in names(rest) if not re.search(rf"^#+ {re.escape(name)}", read(path), re.M)]
+    return [rest] if not path.exists() else [name for name in names(rest) if not re.search(rf"^#+ {re.escape(name)}(?: `|$)", read(path), re.M)]
 
 
 PLACES = {
-    "edits": edits, "texts": texts, "proved": proved, "listings": listings, "the": program, "page": page,
-    "machine_cases": cases("machine_cases"), "paper_cases": cases("paper_cases"),
+    "edits": edits, "sources": failure_rows, "proved": proved, "listings": listings, "the": program, "page": page,
+    "machine_cases": cases("machine_cases"), "paper_cases": cases("paper_cases"), "nothing:": lambda rest: [],
 }
 
 
@@ -236,17 +246,24 @@ def missing(group):
     place, _, rest = group.partition(" ")
     if "::" in place:
         return function(place)
-    if not names(rest) and place not in ("listings", "the"):
+    if not names(rest) and place not in ("listings", "the", "nothing:"):
         return [group]
     if place in PLACES:
         return PLACES[place](rest)
-    file = definitions(file_of(place))
+    file = definitions(place)
     return [group] if file is None else [f"{place} {name}" for name in names(rest) if name not in file.cites]
+
+
+# ---- Rows of coverage
+
+def groups(column):
+    """The groups of a column: a `;` in backquotes parts none."""
+    return [group.strip() for group in re.findall(r"(?:[^;`]|`[^`]*`)+", column) if group.strip()]
 
 
 def rows():
     for n, line in enumerate(read(TOP / "docs/COVERAGE.md").splitlines(), 1):
-        match = re.match(r"\| ((?:[A-Z]\d+)|(?:[123][a-z])) \| (.*) \| (.*) \|$", line)
+        match = re.match(r"\| ([A-Z]\d+|\d[a-z]) \| (.*) \| (.*) \|$", line)
         if match:
             yield f"docs/COVERAGE.md:{n}", *match.groups()
 
@@ -258,33 +275,39 @@ def check_row(place, number, defined, fails):
         for group in groups(column):
             for name in missing(group):
                 problem(place, f"{number} names {name}, which is not there")
+    if not any(definitions(group.split(" ")[0]) or group.startswith("page ") for group in groups(defined)):
+        problem(place, f"{number} has no definition")
     for group in groups(defined):
         where, _, rest = group.partition(" ")
-        file = None if "/" not in where else definitions(file_of(where))
+        file = definitions(where)
         for name in names(rest) if file else []:
             if name in file.cites and number not in file.cites[name]:
                 problem(place, f"{number} is defined by {where} {name}, which does not cite it")
 
 
 def main():
+    if len(sys.argv) > 1:
+        for path, n, number in citations():
+            if number in sys.argv[1:]:
+                print(f"{path}:{n}: {number}")
+        return
     rules = numbered(TOP / "docs/REFERENCE.md", r"[A-Z]\d+")
-    clauses = numbered(TOP / "docs/DEMANDS.md", r"[123][a-z]")
-    gaps(rules)
-    citations = check_citations(set(rules) | set(clauses))
+    clauses = numbered(TOP / "docs/DEMANDS.md", r"\d[a-z]")
+    check_gaps(rules)
+    count = check_citations(rules | clauses)
+    check_links()
     covered = set()
     for place, number, defined, fails in rows():
         if number in covered:
             problem(place, f"{number} has a second row")
         covered.add(number)
-        if number not in rules and number not in clauses:
-            problem(place, f"{number} does not exist")
         check_row(place, number, defined, fails)
-    for number in [*rules, *clauses]:
-        if number not in covered:
-            problem("docs/COVERAGE.md", f"{number} has no row, and so no definition")
+    for number in sorted((rules | clauses) - covered):
+        problem("docs/COVERAGE.md", f"{number} has no row, and so no definition")
     for line in problems:
         print(line)
-    print(f"{len(rules)} rules, {len(clauses)} clauses, {citations} citations: {len(problems) or 'no'} problem{'' if len(problems) == 1 else 's'}")
+    plural = "" if len(problems) == 1 else "s"
+    print(f"{len(rules)} rules, {len(clauses)} clauses of the demands, cited {count} times: {len(problems) or 'no'} problem{plural}")
     sys.exit(1 if problems else 0)
 
 

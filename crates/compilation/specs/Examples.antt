@@ -230,21 +230,22 @@ abbrev refusal : {A : Type 0} → Got A → ℕ
 refusal (Got.got tree next) = 0
 refusal (Got.failed n at) = n
 
--- 384 global integers pass, the 385th is 11 (K5), as is any name that takes a word there; a compconstant takes none, and a local none of sector 0
+-- 384 global integers take all words there: one more is 11 (K5), as is any name that takes a word, and 8 goes first (J7); a compconstant takes none, a local none of sector 0
 global-words :
     refusal (parseGlobal (bytes "B") ItemKeyword.integer (integers 383) 0) ∷ refusal (parseGlobal (bytes "B") ItemKeyword.integer (integers 384) 0) ∷
     refusal (parseGlobal (bytes "B=1") ItemKeyword.constant (integers 384) 0) ∷ refusal (parseGlobal (bytes "B=1") ItemKeyword.compconstant (integers 384) 0) ∷
     refusal (parseArray (bytes "B[1]") (integers 384) 0) ∷ refusal (parseProcedure (bytes "B; .BEGIN .END;") (integers 384) false 0) ∷
-    refusal (parseProcedure (bytes "B; .BEGIN .INTEGER C, D; .END;") (integers 383) false 0) ∷ []
-    ≡ 0 ∷ 11 ∷ 11 ∷ 0 ∷ 11 ∷ 11 ∷ 0 ∷ []
+    refusal (parseProcedure (bytes "B; .BEGIN .INTEGER C, D; .END;") (integers 383) false 0) ∷ refusal (parseGlobal (bytes "A") ItemKeyword.integer (integers 384) 0) ∷ []
+    ≡ 0 ∷ 11 ∷ 11 ∷ 0 ∷ 11 ∷ 11 ∷ 0 ∷ 8 ∷ []
 unfolding computed
 global-words = refl
 
--- 13 at `]`, at the `.END` of a procedure and of the program: with arrays of 15,870 words, element 0 of the next is 513
+-- 13 at `]`, at the `.END` of a procedure and of the program, whatever stands behind that: with arrays of 15,870 words, element 0 of the next is 513
 space :
     map (λ source. failureOf (compileDef (bytes source)))
-    (".BEGIN .ARRAY T[8192], U[7678]; .END" ∷ ".BEGIN .ARRAY T[8192], U[7679]; .END" ∷ ".BEGIN .ARRAY T[8192], U[7680]; .END" ∷ ".BEGIN .ARRAY T[8192], U[7678]; .PROCEDURE P; .BEGIN .END; .END" ∷ [])
-    ≡ (0, 0) ∷ (13, 32) ∷ (13, 29) ∷ (13, 53) ∷ []
+    (".BEGIN .ARRAY T[8192], U[7678]; .END" ∷ ".BEGIN .ARRAY T[8192], U[7679]; .END" ∷ ".BEGIN .ARRAY T[8192], U[7680]; .END" ∷ ".BEGIN .ARRAY T[8192], U[7678]; .PROCEDURE P; .BEGIN .END; .END" ∷
+    ".BEGIN .ARRAY T[8192], U[7679]; .END .END" ∷ [])
+    ≡ (0, 0) ∷ (13, 32) ∷ (13, 29) ∷ (13, 53) ∷ (13, 32) ∷ []
 unfolding computed
 space = refl
 

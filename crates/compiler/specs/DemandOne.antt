@@ -26,7 +26,7 @@ pub data CompileEnds (source image scratch : List ℕ) (r : Answer) (image' : Li
   short-scratch : length image ≡ memoryWords → length scratch < scratchWords → r ≡ Answer.Failed 2 0 → image' ≡ image → CompileEnds source image scratch r image'
   -- a failure of the source: 3 to 14, at an offset in it (J4)
   failed : length image ≡ memoryWords → scratchWords ≤ length scratch → (n at : ℕ) → r ≡ Answer.Failed n at → Numbered source n at → image' ≡ image → CompileEnds source image scratch r image'
-  -- an image; what it is and does says specs/DemandThree
+  -- an image (demand 1a); what it is and does says specs/DemandThree
   accepted : length image ≡ memoryWords → scratchWords ≤ length scratch → length source ≤ 8192 → (entry words globals : ℕ) → r ≡ Answer.Accepted entry words globals → length image' ≡ memoryWords → CompileEnds source image scratch r image'
 
 -- of `run` (demand 1b)

@@ -38,7 +38,7 @@ delivered p image entry words globals = record { program = p; image = image; ent
 
 -- what is claimed of an accepted source
 pub record Accepted (source image : List ℕ) (entry words globals : ℕ) : Type 0 where
-  -- the program that the source is, by the definition; its image, entry and counts are those that the call gave
+  -- the program that the source is, by the definition; its image, entry and counts are those that the call gave (demand 2a, 3a)
   pub program : Program
   pub defined : compileDef source ≡ Result.accepted (delivered program image entry words globals)
   -- of every machine that is loaded with it, the statement about every list of calls (demand 3a to 3j)

@@ -103,7 +103,7 @@ pub record ProgramEmitted (plan : SectorEnds) (image : List ℕ) (s : Allocation
   pub pool : emitted.literalsIn (output .pool) ≡ layout.finish (layout.allocated (p .declarations)) (p .main) .pool
   pub laid : image' ≡ emitProgram (endOf plan) p image
 
--- THE WHOLE PROGRAM, with the lengths of what was lent on every path. A table that has no room for 512 names is 2 at 0, before anything is read (F2)
+-- THE WHOLE PROGRAM, with the lengths of what was lent on every path. A table that has no room for 512 names is 2 at 0, as short scratch is (F2), before anything is read
 unfoldable pub programOn : List ℕ → List ℕ → Got Program
 programOn source table = whether (leb tableWords (length table)) (λ _. programIn source) (λ _. failed 2 0)
 

@@ -91,8 +91,8 @@ each-skip : map (λ row. map (λ r. skipsOf (row .0) r quiet) before) skips ≡ 
 unfolding skipsOf
 each-skip = refl
 
-abbrev keys : List Switches
-keys = switches true false false false ∷ switches false true false false ∷ switches false false true false ∷ switches false false false true ∷ switches true true true true ∷ quiet ∷ []
+abbrev settings : List Switches
+settings = switches true false false false ∷ switches false true false false ∷ switches false false true false ∷ switches false false false true ∷ switches true true true true ∷ quiet ∷ []
 
 abbrev senses : List (ℕ × List Bool)
 senses =
@@ -103,7 +103,7 @@ senses =
     (SSS, true ∷ true ∷ true ∷ true ∷ true ∷ false ∷ []) ∷
     (SSR, false ∷ false ∷ false ∷ false ∷ false ∷ true ∷ []) ∷ []
 
-each-sense : map (λ row. map (skipsOf (row .0) (with 7 true)) keys) senses ≡ map {B = List Bool} (λ row. row .1) senses
+each-sense : map (λ row. map (skipsOf (row .0) (with 7 true)) settings) senses ≡ map {B = List Bool} (λ row. row .1) senses
 unfolding skipsOf
 each-sense = refl
 

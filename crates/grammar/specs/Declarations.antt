@@ -40,7 +40,7 @@ pub data ItemKeyword : Type 0 where
 abbrev pub itemKeywords : List (ℕ × ItemKeyword)
 itemKeywords = (Kinds.INTEGER, ItemKeyword.integer) ∷ (Kinds.CONSTANT, ItemKeyword.constant) ∷ (Kinds.COMPCONSTANT, ItemKeyword.compconstant) ∷ []
 
--- the limit at an item's name: a compconstant takes no word (D4)
+-- the limit at an item's name: a compconstant takes no word (D4, F11)
 unfoldable pub itemLimit : ItemKeyword → Scope → ℕ
 itemLimit ItemKeyword.integer scope = nameLimit scope
 itemLimit ItemKeyword.constant scope = nameLimit scope

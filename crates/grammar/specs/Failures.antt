@@ -26,7 +26,7 @@ rows =
     (" \n ", 6, 3) ∷
     (".BEGIN .INTEGER A; A = 1 ", 6, 25) ∷
     -- the minus (T10 to T12): with no digit; a numeral's sign after a subscript's integer, the operator after a lone cell; a sign after
-    -- a left side, a size, a call, a test and an inner `.END`
+    -- a left side, a size, a call, a test and an inner `.END`; the operator after an operation's cell and amount
     (".BEGIN @=X---1 .END", 6, 11) ∷
     (".BEGIN @=X-32768 .END", 5, 11) ∷
     (".BEGIN @=- 1 .END", 6, 9) ∷
@@ -40,6 +40,8 @@ rows =
     (".BEGIN .PROCEDURE P; .BEGIN .END; P-40000 .END", 5, 35) ∷
     (".BEGIN .WHEN X .ZERO-40000 .THEN .END", 5, 20) ∷
     (".BEGIN .BEGIN .END-40000 .END", 5, 18) ∷
+    (".BEGIN @=X+1-40000 .END", 5, 13) ∷
+    (".BEGIN @=X .LGL 1-40000 .END", 5, 18) ∷
     -- tokens as long as they can be (T4, T6)
     (".BEGIN .WHEN .SENSE12 .THEN .END", 6, 20) ∷
     (".BEGIN .WHEN .SENSE5 .THEN .END", 4, 13) ∷
@@ -137,15 +139,20 @@ compound n inside = resultOf (parseProgram (bytes ".BEGIN " ++ (times n (bytes "
 abbrev called : ℕ → ℕ × ℕ
 called n = resultOf (parseProgram (bytes ".BEGIN .ACCUMULATOR .PROCEDURE F; .BEGIN .END; " ++ (times n (bytes "F(") ++ (bytes "1" ++ (times n (bytes ")") ++ bytes " .END")))))
 
+-- the body of a procedure is at level 0 too (S12)
+abbrev procedure : ℕ → String → ℕ × ℕ
+procedure n inside =
+    resultOf (parseProgram (bytes ".BEGIN .PROCEDURE P; .BEGIN " ++ (times n (bytes ".BEGIN ") ++ (bytes inside ++ (times n (bytes " .END") ++ bytes " .END; .END")))))
+
 nesting :
     bracketed 32 "X" ∷ bracketed 33 "X" ∷ bracketed 33 ")" ∷ bracketed 33 "Y" ∷ bracketed 33 "40000" ∷ bracketed 33 "*" ∷ bracketed 33 ".NEG" ∷ bracketed 33 ".IF" ∷
     bracketed 31 ".IF X .ZERO .THEN 1 .ELSE 2" ∷ bracketed 32 ".IF X .ZERO .THEN 1 .ELSE 2" ∷ bracketed 32 ".IF .CSET .THEN 1 .ELSE 2" ∷
     compound 32 "X=1" ∷ compound 33 "X=1" ∷ compound 33 "Y=1" ∷ compound 33 ";" ∷ compound 33 "" ∷ compound 31 "X=(1)" ∷ compound 32 "X=(1)" ∷
-    called 33 ∷ called 34 ∷ []
+    called 33 ∷ called 34 ∷ procedure 32 "X=1" ∷ procedure 33 "X=1" ∷ []
     ≡ (0, 0) ∷ (9, 33) ∷ (6, 33) ∷ (7, 33) ∷ (5, 33) ∷ (4, 33) ∷ (9, 33) ∷ (9, 33) ∷
     (0, 0) ∷ (9, 36) ∷ (9, 48) ∷
     (0, 0) ∷ (9, 238) ∷ (7, 238) ∷ (0, 0) ∷ (0, 0) ∷ (0, 0) ∷ (9, 234) ∷
-    (0, 0) ∷ (9, 115) ∷ []
+    (0, 0) ∷ (9, 115) ∷ (0, 0) ∷ (9, 259) ∷ []
 unfolding computed
 nesting = refl
 

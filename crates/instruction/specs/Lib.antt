@@ -4,3 +4,4 @@ pub mod Table
 pub mod Decode
 pub mod Encode
 pub mod Agreement
+pub mod Examples

@@ -94,6 +94,14 @@ main-words : mainWords (Stmts.more (Stmts.more (Stmts.one clear) (Stmt.setX (Cel
 unfolding computed
 main-words = refl
 
+-- `(.ZERO) + 5`, then a compound of an empty statement and two others: what is inside, and no word more
+inner-parts :
+    exprWords (Expr.chain [] (Term.bracket zero) (Operation.binary Operator.add (Cell.plain five) ∷ [])) 0o1000 ∷
+    stmtWords (Stmt.compound (Stmts.more (Stmts.more (Stmts.one Stmt.empty) clear) (Stmt.setX (Cell.plain five)))) 0o1000 ∷ []
+    ≡ (Sym.generic CRA ∷ Sym.memory ADD five ∷ []) ∷ (Sym.generic CRA ∷ Sym.memory LDX five ∷ []) ∷ []
+unfolding computed
+inner-parts = refl
+
 -- `A[-1] = 5` pools 5, then -1
 pool-order : literalsOf (stmtWords (Stmt.assign (Target.item a (Subscript.by (Operand.literal 65535))) (Expr.chain [] (Term.cell (Cell.plain five)) [])) 0o1000) ≡ 5 ∷ 65535 ∷ []
 unfolding computed

@@ -35,7 +35,7 @@ pub fn lay(image: &mut [u16])
     image[0o300] = 0o52525; // where the chain ends
     image[0o1000] = 0o3000; // JMP '1000
     image[0o1100] = 0o101000; // NOP
-    image[0o1101] = 0o26000; // a code that no instruction has
+    image[0o1101] = 0o26000; // an opcode that no instruction has
     image[0o1200] = 0o101000; // NOP
     image[0o1201] = 0o110200; // STA* '200
     image[0o1300] = 0o104201; // LDA* '201

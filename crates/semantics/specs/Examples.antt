@@ -75,7 +75,7 @@ rows =
     -- one pass from -5 as well, if the body sets the counter to -1
     (".BEGIN .INTEGER I; .FOR I = -5 .DO I = -1 .END", 0 ∷ 4 ∷ 5 ∷ [], Ending.done 5 65535 0) ∷
     -- three passes from -3, each LDA, ADD, STA: the loop that docs/DEMANDS.md speaks of
-    (".BEGIN .INTEGER I, A; .FOR I = -3 .DO A = A + I .END", 0 ∷ 5 ∷ 10 ∷ 15 ∷ 16 ∷ [], Ending.done 16 65530 0) ∷
+    (".BEGIN .INTEGER I, SUM; .FOR I = -3 .DO SUM = SUM + I .END", 0 ∷ 5 ∷ 10 ∷ 15 ∷ 16 ∷ [], Ending.done 16 65530 0) ∷
     -- two passes from -2, IRS and JMP between them
     (".BEGIN .FOR # = -2 .DO @ = .INC @ .END", 0 ∷ 2 ∷ 5 ∷ 6 ∷ [], Ending.done 6 9 0) ∷
     -- 65,536 passes from 0 are more than the fuel

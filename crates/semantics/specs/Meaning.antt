@@ -54,10 +54,11 @@ unreachable part σ = Trace.out σ
 
 -- ---- Conditions
 
--- how A stands to the operand, by how many words CAS skips
+-- how A stands to the operand
 pub data Order : Type 0 where
   greater equal less : Order
 
+-- by how many words CAS skips (M14)
 unfoldable pub orderOf : ℕ → Order
 orderOf zero = Order.greater
 orderOf (suc zero) = Order.equal

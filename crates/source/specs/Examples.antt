@@ -30,6 +30,12 @@ tokensBy (suc k) source at =
     let t = tokenAt source at in
     whether (eqb (t .kind) Kinds.endOfSource) (λ _. []) (λ _. (t .kind, t .value, t .at) ∷ tokensBy k source (t .next))
 
+-- those of some bytes that alone are no unknown token
+knownOf : List ℕ → List ℕ
+unfolding span sameBytes startsWith find keywordLength keywordKind number constantToken decimalToken negativeToken octalToken keywordToken signToken tokenOf afterBlanks tokenAt
+knownOf [] = []
+knownOf (b ∷ bs) = whether (eqb (tokenAt (b ∷ []) 0 .kind) Kinds.unknown) (λ _. knownOf bs) (λ _. b ∷ knownOf bs)
+
 taken-longest :
     tokensBy 99 (bytes "5A<>=<=>'18.LGL3-5- 5 -32768 40000\n*.FOO.SENSE12X'9 ") 0
     ≡ (Kinds.numeral, 5, 0) ∷ (Kinds.name, 0, 1) ∷ (Kinds.notEqual, 0, 2) ∷ (Kinds.equal, 0, 4) ∷ (Kinds.atMost, 0, 5) ∷ (Kinds.greater, 0, 7) ∷ (Kinds.numeral, 1, 8) ∷ (Kinds.numeral, 8, 10) ∷
@@ -54,6 +60,13 @@ every-keyword :
     ≡ from 22 52
 unfolding tokensBy
 every-keyword = refl
+
+-- every byte that is of the language, of all 256 (T2); a point alone is no token, though it begins some
+every-byte :
+    knownOf (from 0 256)
+    ≡ 10 ∷ 32 ∷ 35 ∷ 39 ∷ 40 ∷ 41 ∷ 43 ∷ 44 ∷ 45 ∷ 48 ∷ 49 ∷ 50 ∷ 51 ∷ 52 ∷ 53 ∷ 54 ∷ 55 ∷ 56 ∷ 57 ∷ 59 ∷ 60 ∷ 61 ∷ 62 ∷ 64 ∷ from 65 26 ++ (91 ∷ 93 ∷ [])
+unfolding knownOf
+every-byte = refl
 
 -- bytes that are none: lower case, tab, carriage return, `*`, `/`, 0 and 255; a blank is no token
 bad-bytes : map (λ t. t .0) (tokensBy 99 (bytes "a \t\r*/" ++ (0 ∷ 255 ∷ 32 ∷ 10 ∷ [])) 0) ≡ map (λ _. Kinds.unknown) (from 0 7)

@@ -11,7 +11,7 @@ pub fn byte_at(source: &[u8], at: usize) -> u8
     if at < source.len() { source[at] } else { 0 }
 }
 
-// A byte of a name, of which the first six count; 0 past its end.
+// A byte of a name, of which the first six count (T7); 0 past its end.
 pub fn name_byte(source: &[u8], name: Token, i: usize) -> u8
     ensures { λ r. ⌜ r ≡ getD (nameOf (now (source .entry)) name) i 0 ⌝ }
 {

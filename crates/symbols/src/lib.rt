@@ -73,7 +73,7 @@ pub enum Symbol {
     Unknown,
 }
 
-// The first six characters of a name, two a word, 0 where there is none.
+// The first six characters of a name (T7), two a word, 0 where there is none.
 pub struct Packed {
     pub one: u16,
     pub two: u16,
