@@ -27,6 +27,7 @@ The definitions of a row have at least one `crate/File`, or are a page.
 """
 import pathlib
 import re
+import signal
 import sys
 
 TOP = pathlib.Path(__file__).resolve().parent.parent
@@ -286,6 +287,7 @@ def check_row(place, number, defined, fails):
 
 
 def main():
+    signal.signal(signal.SIGPIPE, signal.SIG_DFL)
     if len(sys.argv) > 1:
         for path, n, number in citations():
             if number in sys.argv[1:]:
