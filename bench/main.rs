@@ -1,4 +1,5 @@
 //! The proved machine against one in plain Rust, in one process: first that they agree on random runs, then how long each takes.
+//! With the argument `time` it times one round and no more, for bench/compare.py.
 
 mod plain;
 mod processor;
@@ -134,13 +135,17 @@ fn median(mut figures: Vec<f64>) -> f64 {
     figures[figures.len() / 2]
 }
 
-fn speed(program: &Program) {
-    let (ours, theirs): (Vec<f64>, Vec<f64>) = (0..ROUNDS).map(|_| round(program)).unzip();
+fn speed(program: &Program, rounds: usize) {
+    let (ours, theirs): (Vec<f64>, Vec<f64>) = (0..rounds).map(|_| round(program)).unzip();
     let (ours, theirs) = (median(ours), median(theirs));
     println!("{:16} proved {ours:.2} ns a step, plain {theirs:.2} ns a step, ratio {:.2}", program.name, ours / theirs);
 }
 
 fn main() {
-    agreement();
-    programs::all().iter().for_each(speed);
+    let only_time = std::env::args().nth(1).is_some_and(|word| word == "time");
+    if !only_time {
+        agreement();
+    }
+    let rounds = if only_time { 1 } else { ROUNDS };
+    programs::all().iter().for_each(|program| speed(program, rounds));
 }

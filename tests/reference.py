@@ -17,6 +17,7 @@ A row of coverage is `| number | definitions | what would fail |`. Both lists ar
     edits of crate `name`, ..         must-fail edits
     sources `text`, ..                rows of the table in grammar/specs/Failures.antt
     proved `row`, ..                  rows of the table in proved_cases/specs/Table.antt
+    stepped `row`, ..                 rows of the table in machine/specs/Examples.antt
     listings N, N to M, ..            outside listings, by number
     machine_cases `case`, ..          cases of that program, and so for paper_cases
     the program NAME                  a program whose output is stored and compared
@@ -216,6 +217,10 @@ def proved(rest):
     return absent(names(rest), re.findall(r'case "(.*)"', read(TOP / "crates/proved_cases/specs/Table.antt")))
 
 
+def stepped(rest):
+    return absent(names(rest), re.findall(r'^ *"(.*)",$', read(TOP / "crates/machine/specs/Examples.antt"), re.M))
+
+
 def listings(rest):
     there, gone = set(stored("listing_vectors")), []
     for first, last in re.findall(r"(\d{3})(?: to (\d{3}))?", rest):
@@ -237,7 +242,7 @@ def page(rest):
 
 
 PLACES = {
-    "edits": edits, "sources": failure_rows, "proved": proved, "listings": listings, "the": program, "page": page,
+    "edits": edits, "sources": failure_rows, "proved": proved, "stepped": stepped, "listings": listings, "the": program, "page": page,
     "machine_cases": cases("machine_cases"), "paper_cases": cases("paper_cases"), "nothing:": lambda rest: [],
 }
 

@@ -8,14 +8,10 @@ use borrow.Author.Tests.{eqb-true, eqb-false, leb-true, leb-false}
 use lib.Dec.{eqb, leb}
 use lib.ListN.{length}
 use Rattle.prelude.specs.Choice.{whether}
-use Rattle.machine.specs.declared.Clock.{Clock}
-use Rattle.machine.specs.declared.Request.{Request}
-use Rattle.machine.specs.declared.Machine.{Machine}
 use Rattle.machine.specs.declared.Outcome.{Outcome}
-use Rattle.machine.specs.declared.Report.{Report}
 use Rattle.machine.specs.Failure.{wrongImage, overBudget, wrongP, refused}
-use Rattle.machine.specs.State as machine
-use Rattle.machine.specs.Run.{Ran, ran, runDef, reportOf}
+use Rattle.machine.specs.Clock.{spendMany}
+use Rattle.machine.specs.Run.{Ran, idle, reportOf}
 use Rattle.runs.specs.Outcomes.{Refusal}
 use Rattle.runs.proofs.RunLaws.{run-laws}
 use Rattle.compilation.specs.Compile.{Result, compileDef}
@@ -23,7 +19,7 @@ use Rattle.memory_map.proofs.MapLaws.{map-laws}
 use Rattle.parsing_laws.proofs.Parsed.Programs.{numbered, short-enough}
 use Rattle.compiler.specs.declared.Answer.{Answer}
 use Rattle.compiler.specs.Compile.{scratchWords, resultOn, answerOf, imageAfter}
-use Rattle.compiler.specs.DemandThree.{RunCalled}
+use Rattle.compiler.specs.DemandThree.{RunCall, asked, RunCalled}
 use Rattle.compiler.specs.DemandOne.{CompileEnds, RunEnds, Demand1Called}
 use Rattle.layout.specs.Addresses.{memoryWords}
 
@@ -43,34 +39,32 @@ module _ (source image scratch : List ℕ) (r : Answer) (image' : List ℕ) wher
 
 -- ---- Runs
 
-module _ (q : Request) (m : Machine) (k : Clock) (memory memory' : List ℕ) (r : Report) (call : RunCalled q m k memory r memory') where
-  abbrev done : Ran
-  done = runDef q (machine.state m memory)
-
-  refusal : (n : ℕ) → refused (done .outcome) ≡ true → done .outcome ≡ Outcome.Failed n → RunEnds q m k memory r memory'
+module _ (c : RunCall) (call : RunCalled c) where
+  refusal : (n : ℕ) → refused (asked c .outcome) ≡ true → asked c .outcome ≡ Outcome.Failed n → RunEnds c
+  unfolding spendMany
   refusal n e o =
-      let c = run-laws .refusals q (machine.state m memory) n in
-      let f = c .cause e o in
-      let a = c .answer f in
-      RunEnds.refused n f (call .reported ∙ ap (reportOf q k) a) (call .left ∙ ap (λ (d : Ran). d .state .image) a)
+      let x = run-laws .refusals (c .turn .request) (c .start) n in
+      let f = x .cause e o in
+      let a = x .answer f in
+      RunEnds.refused n f (call .reported ∙ ap (reportOf (c .turn .request) (c .clock)) a) (call .left ∙ ap (λ (d : Ran). d .state .image) a)
 
-  not-refused : refused (done .outcome) ≡ false → (n : ℕ) → Refusal q (machine.state m memory) n → ⊥
-  not-refused e n f = by-cause n f (run-laws .refusals q (machine.state m memory) n .answer f)
+  not-refused : refused (asked c .outcome) ≡ false → (n : ℕ) → Refusal (c .turn .request) (c .start) n → ⊥
+  not-refused e n f = by-cause n f (run-laws .refusals (c .turn .request) (c .start) n .answer f)
     where
-      absurd-at : (n : ℕ) → refused (Outcome.Failed n) ≡ true → runDef q (machine.state m memory) ≡ ran 0 (Outcome.Failed n) (machine.state m memory) → ⊥
+      absurd-at : (n : ℕ) → refused (Outcome.Failed n) ≡ true → asked c ≡ idle (Outcome.Failed n) (c .start) → ⊥
       absurd-at n t a =
           let f : _≡_ {A = Bool} false true = sym e ∙ ap (λ (d : Ran). refused (d .outcome)) a ∙ t in
           let z : _≡_ {A = ℕ} 0 1 = cc in
           omega arith
 
-      by-cause : (n : ℕ) → Refusal q (machine.state m memory) n → runDef q (machine.state m memory) ≡ ran 0 (Outcome.Failed n) (machine.state m memory) → ⊥
+      by-cause : (n : ℕ) → Refusal (c .turn .request) (c .start) n → asked c ≡ idle (Outcome.Failed n) (c .start) → ⊥
       by-cause n (Refusal.of-image h) a = absurd-at wrongImage refl a
       by-cause n (Refusal.of-p h l) a = absurd-at wrongP refl a
       by-cause n (Refusal.of-budget h l) a = absurd-at overBudget refl a
 
-  by-refusal : (b : Bool) → refused (done .outcome) ≡ b → (o : Outcome) → done .outcome ≡ o → RunEnds q m k memory r memory'
+  by-refusal : (b : Bool) → refused (asked c .outcome) ≡ b → (o : Outcome) → asked c .outcome ≡ o → RunEnds c
   by-refusal false e o u =
-      RunEnds.ended (not-refused e) (rw (call .reported, call .left) (run-laws .ended q (machine.state m memory) e)) (rw (call .reported) refl)
+      RunEnds.ended (not-refused e) (rw (call .reported, call .left) (run-laws .ended (c .turn .request) (c .start) e)) (rw (call .reported) refl)
   by-refusal true e (Outcome.Failed n) u = refusal n e u
   by-refusal true e Outcome.Halted u =
       let f : _≡_ {A = Bool} false true = sym (ap refused u) ∙ e in
@@ -86,5 +80,5 @@ unfolding resultOn
 demand1-called = record {
   compiles = λ source image scratch image' scratch' r call.
       (by-lengths source image scratch r image' (eqb (length image) memoryWords) (leb scratchWords (length scratch)) refl refl (call .answered) (call .laid), call .cleared);
-  runs = λ q m k memory memory' r call. by-refusal q m k memory memory' r call (refused (runDef q (machine.state m memory) .outcome)) refl (runDef q (machine.state m memory) .outcome) refl;
+  runs = λ c call. by-refusal c call (refused (asked c .outcome)) refl (asked c .outcome) refl;
 }

@@ -1,6 +1,6 @@
 -- Demand 3 over calls, from demand 3 over the definitions: what the calls ensure fixes the definitions' results.
 use Prim.Native.Nat.{ℕ}
-use mathlib.Core.Path.{_≡_, refl, sym, _∙_}
+use mathlib.Core.Path.{_≡_, refl, sym, subst, _∙_}
 use mathlib.Core.Bool.{Bool, true, false}
 use mathlib.Core.List.{List, [], _∷_}
 use native.Mathlib.Omega.{arith}
@@ -8,11 +8,9 @@ use lib.Dec.{eqb, leb}
 use lib.ListN.{length}
 use Rattle.prelude.specs.Choice.{whether}
 use Rattle.machine.specs.declared.Clock.{Clock}
-use Rattle.machine.specs.declared.Request.{Request}
-use Rattle.machine.specs.declared.Report.{Report}
-use Rattle.machine.specs.Run.{runDef}
+use Rattle.machine.specs.Run.{Ran, runDef, reportOf}
 use Rattle.machine.specs.State as machine
-use Rattle.runs.specs.Runs.{Total, withRun, runsDef, Comes}
+use Rattle.runs.specs.Runs.{Turn, Total, withRun, runsDef, Comes}
 use Rattle.tree.specs.Tree.{Program}
 use Rattle.compilation.specs.Compile.{Compiled, Result, compileDef}
 use Rattle.semantics.specs.Trace.{State}
@@ -21,27 +19,36 @@ use Rattle.semantics.proofs.Demand.Theorem.{demand3}
 use Rattle.semantics.proofs.Demand.Loading as loading
 use Rattle.compiler.specs.declared.Answer.{Answer}
 use Rattle.compiler.specs.Compile.{scratchWords, resultOn, answerOf, imageAfter}
-use Rattle.compiler.specs.DemandThree.{RunCalled, Calls, delivered, Accepted, Demand3Called}
+use Rattle.compiler.specs.DemandThree.{RunCall, asked, told, RunCalled, Calls, delivered, Accepted, Demand3Called}
 use Rattle.layout.specs.Addresses.{memoryWords}
 
 -- ---- What calls come to, runs come to
 
--- one call before the others, whose report is the run's
-comes-more : {q : Request} {k : Clock} {s : machine.State} {r : Report} {memory : List ℕ} {t : Total}
-    → RunCalled q (s .machine) k (s .image) r memory → Comes (machine.state (r .machine) memory) t → Comes s (withRun q (r .outcome) (r .steps) t)
+-- one call before the others, which tells of the run
+told-run : (c : RunCall) → RunCalled c → told c ≡ asked c
+told-run c call = rw (call .reported, call .left)
+
+comes-more : (c : RunCall) {t : Total} → RunCalled c → Comes (told c .state) t → Comes (c .start) (withRun (c .turn) (told c) t)
 unfolding runsDef
-comes-more {q} {s = s} call (Comes.list qs) = rw (call .reported, call .left) (Comes.list (q ∷ qs))
+comes-more c call (Comes.list vs) =
+    subst (λ (r : Ran). Comes (c .start) (withRun (c .turn) r (runsDef vs (r .state)))) (sym (told-run c call)) (Comes.list (c .turn ∷ vs))
 
 comes : {s : machine.State} {t : Total} → Calls s t → Comes s t
 unfolding runsDef
 comes Calls.none = Comes.list []
-comes (Calls.one call rest) = comes-more call (comes rest)
+comes (Calls.one c call rest) = comes-more c call (comes rest)
 
 -- and what runs come to, calls come to, whatever the clock
-called : (qs : List Request) (s : machine.State) → Calls s (runsDef qs s)
-unfolding runsDef
+call-at : Turn → machine.State → RunCall
+call-at v s =
+    let r = runDef (v .request) s in
+    let clock : Clock = record { common = 0 } in
+    record { turn = v; clock = clock; start = s; report = reportOf (v .request) clock r; image = r .state .image }
+
+called : (vs : List Turn) (s : machine.State) → Calls s (runsDef vs s)
+unfolding runsDef call-at
 called [] s = Calls.none
-called (q ∷ qs) s = Calls.one {k = record { common = 0 }} (record { reported = refl; left = refl }) (called qs (runDef q s .state))
+called (v ∷ vs) s = Calls.one (call-at v s) (record { reported = refl; left = refl }) (called vs (runDef (v .request) s .state))
 
 -- a statement about what lists come to holds of fewer lists too
 fewer : {p : Program} {σ : State} {C D : Total → Type 0} → ((t : Total) → D t → C t) → Agrees p σ C → Agrees p σ D

@@ -3,19 +3,13 @@ use Prim.Native.Nat.{ℕ, _≤_, _<_}
 use mathlib.Core.Path.{_≡_}
 use mathlib.Core.List.{List}
 use lib.ListN.{length, replicate}
-use Rattle.machine.specs.declared.Clock.{Clock}
-use Rattle.machine.specs.declared.Request.{Request}
-use Rattle.machine.specs.declared.Machine.{Machine}
-use Rattle.machine.specs.declared.Outcome.{Outcome}
-use Rattle.machine.specs.declared.Report.{Report}
-use Rattle.machine.specs.State as machine
 use Rattle.machine.specs.Clock.{spendMany}
-use Rattle.machine.specs.Run.{ran, endedOf}
+use Rattle.machine.specs.Run.{refusalOf}
 use Rattle.runs.specs.Outcomes.{Ended, Refusal}
 use Rattle.parsing_laws.specs.Numbered.{Numbered}
 use Rattle.compiler.specs.declared.Answer.{Answer}
 use Rattle.compiler.specs.Compile.{scratchWords, CompileCalled}
-use Rattle.compiler.specs.DemandThree.{RunCalled}
+use Rattle.compiler.specs.DemandThree.{RunCall, told, RunCalled}
 use Rattle.layout.specs.Addresses.{memoryWords}
 
 -- of `compile` (demand 1a); each way to fail leaves the image as it was (demand 1c)
@@ -30,12 +24,12 @@ pub data CompileEnds (source image scratch : List ℕ) (r : Answer) (image' : Li
   accepted : length image ≡ memoryWords → scratchWords ≤ length scratch → length source ≤ 8192 → (entry words globals : ℕ) → r ≡ Answer.Accepted entry words globals → length image' ≡ memoryWords → CompileEnds source image scratch r image'
 
 -- of `run` (demand 1b)
-pub data RunEnds (q : Request) (m : Machine) (k : Clock) (memory : List ℕ) (r : Report) (memory' : List ℕ) : Type 0 where
+pub data RunEnds (c : RunCall) : Type 0 where
   -- 1, 23 or 22, just on its cause: 0 steps, and everything as it was (R7, J12, demand 1d)
-  refused : (n : ℕ) → Refusal q (machine.state m memory) n → r ≡ endedOf q k 0 (Outcome.Failed n) m → memory' ≡ memory → RunEnds q m k memory r memory'
+  refused : (n : ℕ) → Refusal (c .turn .request) (c .start) n → c .report ≡ refusalOf n (c .start .machine) (c .clock) → c .image ≡ c .start .image → RunEnds c
   -- halted, spent, or 20 or 21 with the state before that step (R6, demand 1d): the steps that it reports were made, and the clock counts them
-  ended : ((n : ℕ) → Refusal q (machine.state m memory) n → ⊥) → Ended (q .budget) (machine.state m memory) (ran (r .steps) (r .outcome) (machine.state (r .machine) memory')) → r .clock ≡ spendMany q (r .steps) k
-      → RunEnds q m k memory r memory'
+  ended : ((n : ℕ) → Refusal (c .turn .request) (c .start) n → ⊥) → Ended (c .turn .request .budget) (c .start) (told c)
+      → c .report .clock ≡ spendMany (c .turn .request) (c .report .steps) (c .clock) → RunEnds c
 
 -- DEMAND 1 of every call
 pub record Demand1Called : Type 0 where
@@ -43,4 +37,4 @@ pub record Demand1Called : Type 0 where
   pub compiles : (source image scratch image' scratch' : List ℕ) (r : Answer) → CompileCalled source image scratch r image' scratch'
       → CompileEnds source image scratch r image' × (scratch' ≡ replicate (length scratch) 0)
   -- of `run` (demand 1b, 1d)
-  pub runs : (q : Request) (m : Machine) (k : Clock) (memory memory' : List ℕ) (r : Report) → RunCalled q m k memory r memory' → RunEnds q m k memory r memory'
+  pub runs : (c : RunCall) → RunCalled c → RunEnds c

@@ -4,11 +4,10 @@ use mathlib.Core.Path.{_≡_}
 use mathlib.Core.List.{List}
 use Rattle.machine.specs.declared.Clock.{Clock}
 use Rattle.machine.specs.declared.Request.{Request}
-use Rattle.machine.specs.declared.Machine.{Machine}
 use Rattle.machine.specs.declared.Report.{Report}
 use Rattle.machine.specs.State as machine
-use Rattle.machine.specs.Run.{runDef, reportOf}
-use Rattle.runs.specs.Runs.{Total, noRun, withRun, runsDef}
+use Rattle.machine.specs.Run.{work, Ran, ran, runDef, reportOf}
+use Rattle.runs.specs.Runs.{Turn, Total, noRun, withRun, runsDef}
 use Rattle.tree.specs.Tree.{Program}
 use Rattle.compilation.specs.Compile.{Compiled, Result, compileDef}
 use Rattle.semantics.specs.Trace.{State}
@@ -18,17 +17,36 @@ use Rattle.compiler.specs.Compile.{CompileCalled}
 
 -- ---- The calls
 
--- a call of `run`: what it ensures, no more. Of `compile` that is `CompileCalled`, its contract
-pub record RunCalled (q : Request) (m : Machine) (k : Clock) (memory : List ℕ) (r : Report) (memory' : List ℕ) : Type 0 where
-  pub reported : r ≡ reportOf q k (runDef q (machine.state m memory))
-  pub left : memory' ≡ runDef q (machine.state m memory) .state .image
+-- one call of `run`: what it is handed, and what it gives back
+pub record RunCall : Type 0 where
+  pub turn : Turn
+  pub clock : Clock
+  pub start : machine.State
+  pub report : Report
+  pub image : List ℕ
+
+abbrev pub runCall : Request → Clock → machine.State → Report → List ℕ → RunCall
+runCall request clock start report image =
+    record { turn = record { request = request }; clock = clock; start = start; report = report; image = image }
+
+-- the run that it asks for
+abbrev pub asked : RunCall → Ran
+asked c = runDef (c .turn .request) (c .start)
+
+-- and the one that its report tells of
+abbrev pub told : RunCall → Ran
+told c = ran (work (c .report .steps)) (c .report .outcome) (machine.state (c .report .machine) (c .image))
+
+-- what such a call ensures, no more. Of `compile` that is `CompileCalled`, its contract
+pub record RunCalled (c : RunCall) : Type 0 where
+  pub reported : c .report ≡ reportOf (c .turn .request) (c .clock) (asked c)
+  pub left : c .image ≡ asked c .state .image
 
 -- a list of calls of `run` from a state, each on the state that the one before it left, and what it comes to (R10, demand 3e).
 -- The clock is the service's, which others' runs move on too: each call may have any
 pub data Calls : machine.State → Total → Type 0 where
   none : {s : machine.State} → Calls s (noRun s)
-  one : {q : Request} {k : Clock} {s : machine.State} {r : Report} {memory : List ℕ} {t : Total}
-      → RunCalled q (s .machine) k (s .image) r memory → Calls (machine.state (r .machine) memory) t → Calls s (withRun q (r .outcome) (r .steps) t)
+  one : (c : RunCall) {t : Total} → RunCalled c → Calls (told c .state) t → Calls (c .start) (withRun (c .turn) (told c) t)
 
 -- ---- The statement
 
@@ -43,8 +61,8 @@ pub record Accepted (source image : List ℕ) (entry words globals : ℕ) : Type
   pub defined : compileDef source ≡ Result.accepted (delivered program image entry words globals)
   -- of every machine that is loaded with it, the statement about every list of calls (demand 3a to 3j)
   pub agrees : (σ : State) (s : machine.State) → Loaded (delivered program image entry words globals) σ s → Agrees program σ (Calls s)
-  -- every list of requests is such a list of calls, with what its runs come to (demand 3e),
-  pub called : (qs : List Request) (s : machine.State) → Calls s (runsDef qs s)
+  -- every list of turns is such a list of calls, with what its runs come to (demand 3e),
+  pub called : (vs : List Turn) (s : machine.State) → Calls s (runsDef vs s)
   -- and such machines exist: the image itself is such a memory, and so it is with any values for the variables (demand 3k)
   pub loads : Loads (delivered program image entry words globals)
 

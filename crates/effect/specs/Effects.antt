@@ -1,9 +1,9 @@
 -- What instructions do to A and C. The semantics of the language acts through these.
 use Prim.Native.Nat.{ℕ, _+_, _-_, _%_}
 use mathlib.Core.Bool.{cond}
-use lib.Dec.{eqb, leb}
+use lib.Dec.{eqb}
 use lib.Bits.{bitAnd, bitXor}
-use Rattle.word.specs.Arithmetic.{flagged, bit, sumOf, differenceOf}
+use Rattle.word.specs.Arithmetic.{SIGN, flagged, bit, negative, sumOf, differenceOf}
 use Rattle.word.specs.Bytes.{icaOf, calOf, carOf, icrOf, iclOf}
 use Rattle.word.specs.Shift.{shiftOf}
 use Rattle.instruction.specs.Opcode.{LDA, ANA, ERA, ADD, SUB}
@@ -27,11 +27,11 @@ unaryOf slot r =
     cond (eqb slot CRA) (withA r 0)
     (cond (eqb slot CMA) (withA r (65535 - r .a))
     (cond (eqb slot TCA) (withA r ((65536 - r .a) % 65536))
-    (cond (eqb slot CHS) (withA r ((r .a + 32768) % 65536))
-    (cond (eqb slot SSP) (withA r (r .a % 32768))
-    (cond (eqb slot SSM) (withA r (r .a % 32768 + 32768))
+    (cond (eqb slot CHS) (withA r ((r .a + SIGN) % 65536))
+    (cond (eqb slot SSP) (withA r (r .a % SIGN))
+    (cond (eqb slot SSM) (withA r (r .a % SIGN + SIGN))
     -- the sign goes to C, and + takes its place (I10)
-    (cond (eqb slot CSA) (withFlagged r (flagged (r .a % 32768) (leb 32768 (r .a))))
+    (cond (eqb slot CSA) (withFlagged r (flagged (r .a % SIGN) (negative (r .a))))
     (cond (eqb slot CAR) (withA r (carOf (r .a)))
     (cond (eqb slot CAL) (withA r (calOf (r .a)))
     (cond (eqb slot ICL) (withA r (iclOf (r .a)))
@@ -43,4 +43,4 @@ unaryOf slot r =
 
 -- a shift of A, with C (I11, I12)
 abbrev pub shiftedOf : ℕ → ℕ → Registers → Registers
-shiftedOf kind n r = withFlagged r (shiftOf kind n (r .a) (r .c))
+shiftedOf kind amount r = withFlagged r (shiftOf kind amount (r .a) (r .c))

@@ -1,14 +1,15 @@
 -- Which generic instructions skip the next word (I10).
 use Prim.Native.Nat.{ℕ, _%_}
-use mathlib.Core.Bool.{Bool, true, false, cond, not}
-use lib.Dec.{eqb, leb, ltb}
+use mathlib.Core.Bool.{Bool, true, false, cond, not, _||_}
+use lib.Dec.{eqb, ltb}
+use Rattle.word.specs.Arithmetic.{SIGN, negative}
 use Rattle.instruction.specs.Slot.{SKP, SLN, SLZ, SMI, SNZ, SPL, SRC, SS1, SS2, SS3, SS4, SSC, SSR, SSS, SZE}
 use Rattle.effect.specs.declared.Registers.{Registers}
 use Rattle.effect.specs.declared.Switches.{Switches}
 
 -- whether a sense switch is set
 abbrev pub anySwitch : Switches → Bool
-anySwitch s = cond (s .one) true (cond (s .two) true (cond (s .three) true (s .four)))
+anySwitch s = s .one || s .two || s .three || s .four
 
 unfoldable pub skipsOf : ℕ → Registers → Switches → Bool
 skipsOf slot r s =
@@ -23,8 +24,8 @@ skipsOf slot r s =
     (cond (eqb slot SSR) (not (anySwitch s))
     (cond (eqb slot SZE) (eqb (r .a) 0)
     (cond (eqb slot SNZ) (ltb 0 (r .a))
-    (cond (eqb slot SPL) (ltb (r .a) 32768)
-    (cond (eqb slot SMI) (leb 32768 (r .a))
+    (cond (eqb slot SPL) (ltb (r .a) SIGN)
+    (cond (eqb slot SMI) (negative (r .a))
     (cond (eqb slot SLZ) (eqb (r .a % 2) 0)
     (cond (eqb slot SLN) (eqb (r .a % 2) 1)
     false))))))))))))))

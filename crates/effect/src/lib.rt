@@ -1,13 +1,13 @@
 // What the instructions do to the registers A, B and C. Each function equals a definition of specs/, which the semantics of the language
 // uses too.
 ghost use mathlib.Core.Path.{_≡_};
-ghost use Rattle.word.specs.Arithmetic.{bit, sumOf};
 ghost use Rattle.effect.specs.Registers.{withA, withFlagged};
 ghost use Rattle.effect.specs.Effects.{operateOf, unaryOf, shiftedOf};
 ghost use Rattle.effect.specs.Skips.{anySwitch, skipsOf};
 use instruction::opcode;
 use instruction::slot;
 use word::Flagged;
+use word::SIGN;
 
 pub struct Registers {
     pub a: u16,
@@ -63,55 +63,36 @@ pub fn unary(slot: usize, r: Registers) -> Registers
         slot::CRA => with_a(r, 0),
         slot::CMA => with_a(r, 65535 - a),
         slot::TCA => with_a(r, ((65536 - a as u32) % 65536) as u16),
-        slot::CHS => with_a(r, ((a as u32 + 32768) % 65536) as u16),
-        slot::SSP => with_a(r, a % 32768),
-        slot::SSM => with_a(r, a % 32768 + 32768),
+        slot::CHS => with_a(r, ((a as u32 + SIGN as u32) % 65536) as u16),
+        slot::SSP => with_a(r, a % SIGN),
+        slot::SSM => with_a(r, a % SIGN + SIGN),
         slot::CSA => Registers {
-            a: a % 32768,
+            a: a % SIGN,
             b: r.b,
-            c: 32768 <= a,
+            c: SIGN <= a,
         },
         slot::CAR => with_a(r, word::bytes::car(a)),
         slot::CAL => with_a(r, word::bytes::cal(a)),
         slot::ICL => with_a(r, word::bytes::icl(a)),
         slot::AOA => with_flagged(r, word::sum(a, 1)),
-        slot::ACA => add_c(r),
+        slot::ACA => with_flagged(r, word::sum(a, word::bit(r.c))),
         slot::ICR => with_a(r, word::bytes::icr(a)),
         slot::ICA => with_a(r, word::bytes::ica(a)),
         _ => r,
     }
 }
 
-fn add_c(r: Registers) -> Registers
-    ensures { λ s. ⌜ s ≡ withFlagged r (sumOf (r .a) (bit (r .c))) ⌝ }
+// A shift of A, with C.
+pub fn shifted(kind: u16, amount: u16, r: Registers) -> Registers
+    ensures { λ s. ⌜ s ≡ shiftedOf kind amount r ⌝ }
 {
-    if r.c {
-        with_flagged(r, word::sum(r.a, 1))
-    } else {
-        with_flagged(r, word::sum(r.a, 0))
-    }
-}
-
-// A shift by n.
-pub fn shifted(kind: u16, n: u16, r: Registers) -> Registers
-    ensures { λ s. ⌜ s ≡ shiftedOf kind n r ⌝ }
-{
-    with_flagged(r, word::shift::shift(kind, n, r.a, r.c))
+    with_flagged(r, word::shift::shift(kind, amount, r.a, r.c))
 }
 
 fn any_switch(s: Switches) -> bool
     ensures { λ r. ⌜ r ≡ anySwitch s ⌝ }
 {
-    if s.one {
-        return true;
-    }
-    if s.two {
-        return true;
-    }
-    if s.three {
-        return true;
-    }
-    s.four
+    s.one || s.two || s.three || s.four
 }
 
 // Whether SKP to SLN skips; any other slot does not.
@@ -132,8 +113,8 @@ pub fn skips(slot: usize, r: Registers, s: Switches) -> bool
         slot::SSR => !any_switch(s),
         slot::SZE => a == 0,
         slot::SNZ => 0 < a,
-        slot::SPL => a < 32768,
-        slot::SMI => 32768 <= a,
+        slot::SPL => a < SIGN,
+        slot::SMI => SIGN <= a,
         slot::SLZ => a % 2 == 0,
         slot::SLN => a % 2 == 1,
         _ => false,

@@ -1,25 +1,26 @@
 -- Decoding an encoded instruction gives it back, and a decoded one encodes its word.
 use Prim.Native.Nat.{ℕ, _+_, _-_, _*_, _/_, _%_, _≤_, _<_}
-use mathlib.Core.Path.{_≡_, refl, ap, sym, subst, _∙_}
+use mathlib.Core.Path.{_≡_, refl, ap, ap₂, sym, subst, _∙_}
 use mathlib.Core.Logic.{_⊎_, inl, inr}
-use mathlib.Core.Bool.{Bool, true, false, cond}
+use mathlib.Core.Bool.{Bool, true, false, not, _&&_, _||_, and-true, and-eq-true-iff}
 use mathlib.Core.List.{List, [], _∷_, List·Memᴰ, List·Memᴰ·head, List·Memᴰ·tail}
 use native.Mathlib.Omega.{arith}
-use lib.ListN.{getD}
-use lib.Dec.{T, eqb, eqb→eq, leb, ltb}
-use borrow.Author.Tests.{ltb-false, leb-true, leb-false, eqb-true, eqb-false, le-ltb, le-leb, lt-leb, eq-eqb, ne-eqb}
+use lib.Dec.{eqb, leb, ltb, leb→le, ltb→lt}
+use borrow.Author.Tests.{leb-true, leb-false, eqb-true, eqb-false, le-leb, lt-leb, eq-eqb, ne-eqb}
 use Rattle.word.specs.Arithmetic.{bit}
 use Rattle.word.specs.Shift.{LGR, ARR, LGL, ALR}
 use Rattle.instruction.specs.declared.Instruction.{Instruction}
 use Rattle.instruction.specs.declared.Instruction.the-variants.{Memory, Shift, Generic, Unknown}
-use Rattle.instruction.specs.Opcode.{JMP, IRS, LDX}
-use Rattle.instruction.specs.Table.{Row, row, generics, tableOf}
-use Rattle.instruction.specs.Decode.{findWord, genericOf, isShift, shiftOf, flagAt, opcodeOf, memoryWith, memoryOf, decodeDef}
+use Rattle.instruction.specs.Field.{TAG, SECTOR, indirectOf, tagOf, sectorOf, opcodeOf}
+use Rattle.instruction.specs.Opcode.{LDX, opcodes}
+use Rattle.instruction.specs.Table.{shiftKinds, Row, row, generics}
+use Rattle.instruction.specs.Decode.{findWord, genericOf, isIn, shiftOf, isMemory, addsX, memoryOf, decodeDef}
 use Rattle.instruction.specs.Encode.{memoryWord, shiftWord, Encodes, memory, loadX, shift, generic}
 use Rattle.instruction.specs.Agreement.{UnknownExactly, Agreement}
-use Rattle.instruction.proofs.Every.{both, both-left, both-right}
+use Rattle.instruction.proofs.Every.{both, both-left, both-right, off, passes}
 use Rattle.instruction.proofs.Choice.{cond-when, cond-all}
-use Rattle.instruction.proofs.Rows.{isAt, is-at, decode-same}
+use Rattle.instruction.proofs.Members.{or-either, in-member, member-in, range, in-range, in-either}
+use Rattle.instruction.proofs.Rows.{isAt, is-at, decode-same, slots}
 
 -- a flag and its bit
 bit-below : (b : Bool) → bit b < 2
@@ -45,9 +46,9 @@ bit-top w h =
 -- a memory-reference instruction's word, taken apart
 record Parts (w opcode address : ℕ) (indirect tag sector : Bool) : Type 0 where
   code-part : opcodeOf w ≡ opcode
-  indirect-part : leb 0o100000 w ≡ indirect
-  tag-part : flagAt w 0o40000 ≡ tag
-  sector-part : flagAt w 0o1000 ≡ sector
+  indirect-part : indirectOf w ≡ indirect
+  tag-part : tagOf w ≡ tag
+  sector-part : sectorOf w ≡ sector
   address-part : w % 512 ≡ address
 
 parts : (opcode address : ℕ) (indirect tag sector : Bool) → opcode < 16 → address < 512
@@ -61,18 +62,34 @@ parts opcode address indirect tag sector coded nine =
     record {
       code-part = omega arith;
       indirect-part = top-is indirect w (omega arith);
-      tag-part = flag-is tag (w / 0o40000 % 2) (omega arith);
-      sector-part = flag-is sector (w / 0o1000 % 2) (omega arith);
+      tag-part = flag-is tag (w / TAG % 2) (omega arith);
+      sector-part = flag-is sector (w / SECTOR % 2) (omega arith);
       address-part = omega arith;
     }
 
-decode-memory : (opcode address : ℕ) (indirect tag sector : Bool) → JMP ≤ opcode → opcode ≤ IRS → address < 512
+-- what a decoder asks of an opcode on the list: one test for all
+record Plain (opcode : ℕ) : Type 0 where
+  some : eqb opcode 0 ≡ false
+  below : opcode < 16
+  not-index : eqb opcode LDX ≡ false
+
+plain : {opcode : ℕ} → List·Memᴰ opcode opcodes → Plain opcode
+plain {opcode} m = record {
+  some = off (eqb opcode 0) (passes (λ (n : ℕ). not (eqb n 0)) opcode opcodes tt m);
+  below = ltb→lt opcode 16 (passes (λ (n : ℕ). ltb n 16) opcode opcodes tt m);
+  not-index = off (eqb opcode LDX) (passes (λ (n : ℕ). not (eqb n LDX)) opcode opcodes tt m);
+}
+
+pub not-loadX : {opcode : ℕ} → List·Memᴰ opcode opcodes → eqb opcode LDX ≡ false
+not-loadX m = plain m .not-index
+
+decode-memory : (opcode address : ℕ) (indirect tag sector : Bool) → List·Memᴰ opcode opcodes → address < 512
     → decodeDef (memoryWord opcode indirect tag sector address) ≡ Memory opcode indirect tag sector address
 unfolding decodeDef memoryOf
-decode-memory opcode address indirect tag sector l h nine =
-    let p = parts opcode address indirect tag sector (omega arith) nine in
-    let z : eqb opcode 0 ≡ false = ne-eqb opcode 0 (λ e. omega arith) in
-    simp (p .code-part, z, le-leb opcode IRS h, p .indirect-part, p .tag-part, p .sector-part, p .address-part)
+decode-memory opcode address indirect tag sector m nine =
+    let o = plain m in
+    let p = parts opcode address indirect tag sector (o .below) nine in
+    simp (p .code-part, o .some, o .not-index, member-in opcode opcodes m, p .indirect-part, p .tag-part, p .sector-part, p .address-part, and-true tag)
 
 decode-loadX : (address : ℕ) (indirect sector : Bool) → address < 512
     → decodeDef (memoryWord LDX indirect true sector address) ≡ Memory LDX indirect false sector address
@@ -81,45 +98,34 @@ decode-loadX address indirect sector nine =
     let p = parts LDX address indirect true sector (omega arith) nine in
     simp (p .code-part, p .indirect-part, p .tag-part, p .sector-part, p .address-part)
 
--- the six kinds of shift stand in 260 to 270
-kind-within : (kind : ℕ) → isShift kind ≡ true → (LGR ≤ kind) × (kind ≤ ALR)
-kind-within kind e = by (ltb kind LGR) refl (leb kind ARR) refl (ltb kind LGL) e
-  where
-    by : (a : Bool) → ltb kind LGR ≡ a → (b : Bool) → leb kind ARR ≡ b → (c : Bool) → cond a false (cond b true (cond c false (leb kind ALR))) ≡ true
-        → (LGR ≤ kind) × (kind ≤ ALR)
-    by true p b q c e = let z : _≡_ {A = ℕ} 0 1 = cc in absurd (omega arith)
-    by false p true q c e = let h = leb-true kind ARR q in let l = ltb-false kind LGR p in (omega arith, omega arith)
-    by false p false q true e = let z : _≡_ {A = ℕ} 0 1 = cc in absurd (omega arith)
-    by false p false q false e = let h = leb-true kind ALR e in let l = ltb-false kind LGR p in (omega arith, omega arith)
+-- the test of the six kinds by bounds, as the code has it
+pub kind-test : (kind : ℕ) → isIn kind shiftKinds ≡ ((leb LGR kind && leb kind ARR) || (leb LGL kind && leb kind ALR))
+unfolding range
+kind-test kind = in-either kind (range LGR 2) (range LGL 2) ∙ ap₂ _||_ (in-range kind LGR 2) (in-range kind LGL 2)
+
+kind-bounds : {kind : ℕ} → List·Memᴰ kind shiftKinds → (LGR ≤ kind) × (kind ≤ ALR)
+kind-bounds {kind} m =
+    let t = passes (λ (k : ℕ). both (leb LGR k) (leb k ALR)) kind shiftKinds tt m in
+    (leb→le _ _ (both-left (leb LGR kind) (leb kind ALR) t), leb→le _ _ (both-right (leb LGR kind) (leb kind ALR) t))
 
 shift-word : (kind n : ℕ) → kind ≤ ALR → n ≤ 15 → shiftWord kind n ≡ kind * 64 + (64 - n)
 unfolding shiftWord
 shift-word kind n k h = let r : n % 64 ≡ n = omega arith in rw r (omega arith)
 
-decode-shift : (kind n : ℕ) → isShift kind ≡ true → 1 ≤ n → n ≤ 15 → decodeDef (shiftWord kind n) ≡ Shift kind n
+decode-shift : (kind n : ℕ) → List·Memᴰ kind shiftKinds → 1 ≤ n → n ≤ 15 → decodeDef (shiftWord kind n) ≡ Shift kind n
 unfolding decodeDef shiftOf
-decode-shift kind n e l h =
+decode-shift kind n m l h =
     let w = kind * 64 + (64 - n) in
-    let k = kind-within kind e in
+    let k = kind-bounds m in
     let u = shift-word kind n (k .1) h in
-    let q : w / 1024 ≡ 16 = omega arith in
+    let q : w / 1024 ≡ 16 = omega (arith, k .0, k .1) in
     let c : opcodeOf w ≡ 0 = omega arith in
-    let t : w / 0o40000 ≡ 1 = omega arith in
-    let m : w % 64 ≡ 64 - n = omega arith in
+    let t : w / TAG ≡ 1 = omega arith in
+    let r : w % 64 ≡ 64 - n = omega arith in
     let d : w / 64 ≡ kind = omega arith in
-    let b : ltb (64 - n) 49 ≡ false = le-ltb (64 - n) 49 (omega arith) in
+    let b : leb 49 (64 - n) ≡ true = le-leb 49 (64 - n) (omega arith) in
     let x : 64 - (64 - n) ≡ n = omega arith in
-    simp (u, c, t, m, d, b, e, x)
-
--- a test that every row of a table passes, and so each of its members
-all-rows : (Row → Bool) → List Row → Bool
-all-rows f [] = true
-all-rows f (r ∷ rs) = both (f r) (all-rows f rs)
-
-member-row : (f : Row → Bool) (r : Row) (rows : List Row) → T (all-rows f rows) → List·Memᴰ r rows → T (f r)
-unfolding all-rows
-member-row f r (x ∷ rows) t (List·Memᴰ·head e) = subst (λ (y : Row). T (f y)) (sym e) (both-left (f x) (all-rows f rows) t)
-member-row f r (x ∷ rows) t (List·Memᴰ·tail m) = member-row f r rows (both-right (f x) (all-rows f rows) t) m
+    simp (u, c, t, r, d, b, member-in kind shiftKinds m, x)
 
 -- each row of the table decodes to its slot: one test
 row-decodes : Row → Bool
@@ -127,13 +133,13 @@ unfolding isAt decodeDef genericOf findWord generics shiftOf memoryOf
 row-decodes r = isAt (r .slot) (decodeDef (r .word))
 
 decode-generic : (slot word : ℕ) → List·Memᴰ (row slot word) generics → decodeDef word ≡ Generic slot
-unfolding all-rows row-decodes isAt decodeDef genericOf findWord generics shiftOf memoryOf
-decode-generic slot word m = is-at slot (decodeDef word) (member-row row-decodes (row slot word) generics tt m)
+unfolding row-decodes isAt decodeDef genericOf findWord generics shiftOf memoryOf
+decode-generic slot word m = is-at slot (decodeDef word) (passes row-decodes (row slot word) generics tt m)
 
 pub encoded : {i : Instruction} {w : ℕ} → Encodes i w → decodeDef w ≡ i
-encoded (memory {opcode} {address} {indirect} {tag} {sector} l h nine) = decode-memory opcode address indirect tag sector l h nine
+encoded (memory {opcode} {address} {indirect} {tag} {sector} m nine) = decode-memory opcode address indirect tag sector m nine
 encoded (loadX {address} {indirect} {sector} nine) = decode-loadX address indirect sector nine
-encoded (shift {kind} {n} e l h) = decode-shift kind n e l h
+encoded (shift {kind} {amount} m l h) = decode-shift kind amount m l h
 encoded (generic {slot} {word} m) = decode-generic slot word m
 
 -- a decoded instruction's word, put together again: the quotients by 512, 1024, 16384 and 32768
@@ -141,11 +147,11 @@ joined : (w a b c d r s t u i : ℕ) → w ≡ a * 512 + r → a ≡ b * 2 + s �
     → i * 32768 + u * 16384 + t * 1024 + s * 512 + r ≡ w
 joined w a b c d r s t u i p q x y z = omega arith
 
-memory-word : (w : ℕ) (tag : Bool) → w < 65536 → bit tag ≡ w / 0o40000 % 2
-    → memoryWord (opcodeOf w) (leb 0o100000 w) tag (flagAt w 0o1000) (w % 512) ≡ w
+memory-word : (w : ℕ) (tag : Bool) → w < 65536 → bit tag ≡ w / TAG % 2
+    → memoryWord (opcodeOf w) (indirectOf w) tag (sectorOf w) (w % 512) ≡ w
 unfolding memoryWord
 memory-word w tag h t =
-    let s = bit-of (w / 0o1000 % 2) (omega arith) in
+    let s = bit-of (w / SECTOR % 2) (omega arith) in
     let c : opcodeOf w % 16 ≡ opcodeOf w = omega arith in
     let a : w % 512 % 512 ≡ w % 512 = omega arith in
     let first : w ≡ w / 512 * 512 + w % 512 = omega arith in
@@ -173,42 +179,51 @@ generic-decoded w = found w generics (λ x m. m)
 shift-decoded : (w : ℕ) → Decoded w (shiftOf w)
 unfolding shiftOf Decoded
 shift-decoded w =
-    cond-when (Decoded w) (ltb (w % 64) 49) Unknown _ (λ e. inl refl)
-    (λ e. cond-when (Decoded w) (isShift (w / 64)) (Shift (w / 64) (64 - w % 64)) Unknown
-    (λ k.
-    let l = ltb-false (w % 64) 49 e in
-    let u = shift-word (w / 64) (64 - w % 64) (kind-within (w / 64) k .1) (omega arith) in
+    cond-when (Decoded w) (leb 49 (w % 64) && isIn (w / 64) shiftKinds) (Shift (w / 64) (64 - w % 64)) Unknown
+    (λ e.
+    let both-true = and-eq-true-iff (leb 49 (w % 64)) _ .0 e in
+    let l = leb-true 49 (w % 64) (both-true .0) in
+    let m = in-member (w / 64) shiftKinds (both-true .1) in
+    let u = shift-word (w / 64) (64 - w % 64) (kind-bounds m .1) (omega arith) in
     let q : w / 64 * 64 + (64 - (64 - w % 64)) ≡ w = omega arith in
-    inr (subst (Encodes (Shift (w / 64) (64 - w % 64))) (u ∙ q) (shift k (omega arith) (omega arith))))
-    (λ k. inl refl))
+    inr (subst (Encodes (Shift (w / 64) (64 - w % 64))) (u ∙ q) (shift m (omega arith) (omega arith))))
+    (λ e. inl refl)
 
-memory-decoded : (w : ℕ) → w < 65536 → (opcodeOf w ≡ 0 → ⊥) → Decoded w (memoryOf w)
+-- an instruction by its opcode and tag, and by the word's
+memory-as : {opcode : ℕ} (tag : Bool) {adds : Bool} (w : ℕ) → w < 65536 → opcodeOf w ≡ opcode → bit tag ≡ w / TAG % 2 → addsX opcode (tagOf w) ≡ adds
+    → Encodes (Memory opcode (indirectOf w) adds (sectorOf w) (w % 512)) (memoryWord opcode (indirectOf w) tag (sectorOf w) (w % 512))
+    → Encodes (Memory (opcodeOf w) (indirectOf w) (addsX (opcodeOf w) (tagOf w)) (sectorOf w) (w % 512)) w
+memory-as {opcode} tag {adds} w h c t a e =
+    subst (λ (k : ℕ). Encodes (Memory (opcodeOf w) (indirectOf w) (addsX (opcodeOf w) (tagOf w)) (sectorOf w) (w % 512)) k) (memory-word w tag h t)
+    (rw (c, a) e)
+
+memory-decoded : (w : ℕ) → w < 65536 → Decoded w (memoryOf w)
 unfolding memoryOf Decoded
-memory-decoded w h some =
-    cond-when (Decoded w) (leb (opcodeOf w) IRS) (memoryWith (flagAt w 0o40000) w) _
-    (λ e. inr (subst (Encodes (memoryWith (flagAt w 0o40000) w)) (memory-word w (flagAt w 0o40000) h (bit-of (w / 0o40000 % 2) (omega arith)))
-    (memory (omega arith) (leb-true (opcodeOf w) IRS e) (omega arith))))
-    (λ e. cond-when (Decoded w) (eqb (opcodeOf w) LDX) _ Unknown
-    (λ c. cond-when (Decoded w) (flagAt w 0o40000) (memoryWith false w) Unknown
-    (λ t. inr (index (eqb-true (opcodeOf w) LDX c) (eqb-true (w / 0o40000 % 2) 1 t)))
-    (λ t. inl refl))
-    (λ c. inl refl))
+memory-decoded w h =
+    cond-when (Decoded w) (isMemory (opcodeOf w) (tagOf w)) _ Unknown
+    (λ e. by (or-either (isIn (opcodeOf w) opcodes) (eqb (opcodeOf w) LDX && tagOf w) e))
+    (λ e. inl refl)
   where
-    index : opcodeOf w ≡ LDX → w / 0o40000 % 2 ≡ 1 → Encodes (memoryWith false w) w
-    index c t =
-        subst (Encodes (memoryWith false w)) (memory-word w true h (sym t))
-        (subst (λ (k : ℕ). Encodes (Memory k (leb 0o100000 w) false (flagAt w 0o1000) (w % 512)) (memoryWord k (leb 0o100000 w) true (flagAt w 0o1000) (w % 512)))
-        (sym c) (loadX (omega arith)))
+    by : (isIn (opcodeOf w) opcodes ≡ true) ⊎ ((eqb (opcodeOf w) LDX && tagOf w) ≡ true)
+        → Decoded w (Memory (opcodeOf w) (indirectOf w) (addsX (opcodeOf w) (tagOf w)) (sectorOf w) (w % 512))
+    by (inl e) =
+        let m = in-member (opcodeOf w) opcodes e in
+        inr (memory-as (tagOf w) w h refl (bit-of (w / TAG % 2) (omega arith)) (rw (not-loadX m) (and-true (tagOf w))) (memory m (omega arith)))
+    by (inr e) =
+        let both-true = and-eq-true-iff (eqb (opcodeOf w) LDX) (tagOf w) .0 e in
+        let c = eqb-true (opcodeOf w) LDX (both-true .0) in
+        let t = both-true .1 in
+        inr (memory-as true w h c (sym (eqb-true (w / TAG % 2) 1 t)) (rw t refl) (loadX (omega arith)))
 
 pub known : (w : ℕ) → w < 65536 → (decodeDef w ≡ Unknown) ⊎ Encodes (decodeDef w) w
 unfolding decodeDef Decoded
 known w h =
-    cond-when (Decoded w) (eqb (opcodeOf w) 0) _ (memoryOf w)
-    (λ e. cond-all (Decoded w) (eqb (w / 0o40000) 1) (shift-decoded w) (generic-decoded w))
-    (λ e. memory-decoded w h (eqb-false (opcodeOf w) 0 e))
+    cond-all (Decoded w) (eqb (opcodeOf w) 0)
+    (cond-all (Decoded w) (eqb (w / TAG) 1) (shift-decoded w) (generic-decoded w))
+    (memory-decoded w h)
 
 not-unknown : {i : Instruction} {w : ℕ} → Encodes i w → i ≡ Unknown → ⊥
-not-unknown (memory l h nine) e = let z : _≡_ {A = ℕ} 0 1 = cc in omega arith
+not-unknown (memory m nine) e = let z : _≡_ {A = ℕ} 0 1 = cc in omega arith
 not-unknown (loadX nine) e = let z : _≡_ {A = ℕ} 0 1 = cc in omega arith
 not-unknown (shift k l h) e = let z : _≡_ {A = ℕ} 0 1 = cc in omega arith
 not-unknown (generic m) e = let z : _≡_ {A = ℕ} 0 1 = cc in omega arith
@@ -222,15 +237,6 @@ unknown-exactly w h = record {
     by : ((i : Instruction) → Encodes i w → ⊥) → (decodeDef w ≡ Unknown) ⊎ Encodes (decodeDef w) w → decodeDef w ≡ Unknown
     by none (inl e) = e
     by none (inr e) = absurd (none (decodeDef w) e)
-
--- each row's word stands at its slot: one test
-row-stands : Row → Bool
-unfolding tableOf
-row-stands r = eqb (getD tableOf (r .slot) 0) (r .word)
-
-slots : (slot word : ℕ) → List·Memᴰ (row slot word) generics → getD tableOf slot 0 ≡ word
-unfolding all-rows row-stands tableOf generics
-slots slot word m = eqb→eq (getD tableOf slot 0) word (member-row row-stands (row slot word) generics tt m)
 
 pub agreement : Agreement
 agreement = record { encoded = encoded; known = known; unknown-exactly = unknown-exactly; decoder = decode-same; slots = slots }

@@ -1,8 +1,8 @@
 -- A rule of a table, proved at all of its entries by one test that antt computes, one entry after the other.
 --
-use mathlib.Core.Path.{_∙_, subst, sym}
-use mathlib.Core.Bool.{Bool, true, false}
-use mathlib.Core.List.{List, [], _∷_}
+use mathlib.Core.Path.{_≡_, refl, _∙_, subst, sym}
+use mathlib.Core.Bool.{Bool, true, false, not}
+use mathlib.Core.List.{List, [], _∷_, List·Memᴰ, List·Memᴰ·head, List·Memᴰ·tail}
 use Prim.Native.Nat.{ℕ, zero, suc, _+_, _<_}
 use native.Mathlib.Nat.{add-zero, zero-add, add-suc, suc-add, le-of-suc-le-suc, not-suc-le-zero}
 use lib.Dec.{T}
@@ -19,6 +19,19 @@ both-left false b t = t
 pub both-right : (a b : Bool) → T (both a b) → T b
 both-right true b t = t
 both-right false b t = absurd t
+
+pub off : (b : Bool) → T (not b) → b ≡ false
+off true t = absurd t
+off false t = refl
+
+-- a test that every member of a list passes, and so each one
+abbrev pub all : {A : Type 0} → (A → Bool) → List A → Bool
+all f [] = true
+all f (x ∷ xs) = both (f x) (all f xs)
+
+pub passes : {A : Type 0} (f : A → Bool) (x : A) (l : List A) → T (all f l) → List·Memᴰ x l → T (f x)
+passes {A} f x (y ∷ l) t (List·Memᴰ·head e) = subst (λ (z : A). T (f z)) (sym e) (both-left (f y) (all f l) t)
+passes f x (y ∷ l) t (List·Memᴰ·tail m) = passes f x l (both-right (f y) (all f l) t) m
 
 -- the test f passes at each entry of the list and its place, counted from i
 abbrev pub every : (ℕ → ℕ → Bool) → ℕ → List ℕ → Bool

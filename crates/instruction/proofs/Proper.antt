@@ -1,14 +1,15 @@
 -- What holds of every decoded instruction: an address has nine bits, and a shift's amount is 1 to 15.
-use Prim.Native.Nat.{ℕ, _<_, _≤_, _/_, _%_}
+use Prim.Native.Nat.{ℕ, _-_, _<_, _≤_, _/_, _%_}
+use mathlib.Core.Bool.{_&&_, and-eq-true-iff}
 use mathlib.Core.List.{List, [], _∷_}
 use native.Mathlib.Omega.{arith}
-use lib.Dec.{eqb, leb, ltb}
-use borrow.Author.Tests.{ltb-false}
+use lib.Dec.{eqb, leb}
+use borrow.Author.Tests.{leb-true}
 use Rattle.instruction.specs.declared.Instruction.{Instruction}
 use Rattle.instruction.specs.declared.Instruction.the-variants.{Memory, Shift, Generic, Unknown}
-use Rattle.instruction.specs.Opcode.{IRS, LDX}
-use Rattle.instruction.specs.Table.{Row, generics}
-use Rattle.instruction.specs.Decode.{findWord, genericOf, isShift, shiftOf, flagAt, opcodeOf, memoryOf, decodeDef}
+use Rattle.instruction.specs.Field.{TAG, tagOf, opcodeOf}
+use Rattle.instruction.specs.Table.{shiftKinds, Row, generics}
+use Rattle.instruction.specs.Decode.{findWord, genericOf, isIn, shiftOf, isMemory, memoryOf, decodeDef}
 use Rattle.instruction.proofs.Choice.{cond-when, cond-all}
 
 abbrev pub Proper : Instruction → Type 0
@@ -29,18 +30,16 @@ generic-proper w = found-proper w generics
 shift-proper : (w : ℕ) → Proper (shiftOf w)
 unfolding shiftOf
 shift-proper w =
-    cond-when Proper (ltb (w % 64) 49) Unknown _ (λ h. tt)
-    (λ h. cond-all Proper (isShift (w / 64)) (omega (arith, ltb-false (w % 64) 49 h)) tt)
+    cond-when Proper (leb 49 (w % 64) && isIn (w / 64) shiftKinds) (Shift (w / 64) (64 - w % 64)) Unknown
+    (λ h. omega (arith, leb-true 49 (w % 64) (and-eq-true-iff (leb 49 (w % 64)) _ .0 h .0))) (λ h. tt)
 
 memory-proper : (w : ℕ) → Proper (memoryOf w)
 unfolding memoryOf
-memory-proper w =
-    cond-all Proper (leb (opcodeOf w) IRS) (omega arith)
-    (cond-all Proper (eqb (opcodeOf w) LDX) (cond-all Proper (flagAt w 0o40000) (omega arith) tt) tt)
+memory-proper w = cond-all Proper (isMemory (opcodeOf w) (tagOf w)) (omega arith) tt
 
 pub decode-proper : (w : ℕ) → Proper (decodeDef w)
 unfolding decodeDef
 decode-proper w =
     cond-all Proper (eqb (opcodeOf w) 0)
-    (cond-all Proper (eqb (w / 0o40000) 1) (shift-proper w) (generic-proper w))
+    (cond-all Proper (eqb (w / TAG) 1) (shift-proper w) (generic-proper w))
     (memory-proper w)

@@ -2,17 +2,19 @@
 --
 use mathlib.Core.Path.{_≡_, refl, ap, sym, _∙_, subst}
 use mathlib.Core.Bool.{Bool, true, false, cond}
-use mathlib.Core.List.{List, [], _∷_}
+use mathlib.Core.List.{List, [], _∷_, List·Memᴰ, List·Memᴰ·head, List·Memᴰ·tail}
 use Prim.Native.Nat.{ℕ}
 use native.Mathlib.Omega.{arith}
 use lib.Dec.{T, eqb, eqb→eq}
 use lib.ListN.{getD}
-use borrow.Author.Tests.{eqb-true, eqb-false}
+use borrow.Author.Tests.{eqb-true, eqb-false, ne-eqb}
 use Rattle.instruction.specs.declared.Instruction.{Instruction}
 use Rattle.instruction.specs.declared.Instruction.the-variants.{Memory, Shift, Generic, Unknown}
-use Rattle.instruction.specs.Table.{Row, generics, tableOf}
-use Rattle.instruction.specs.Decode.{findWord, genericOf, slotOf, genericIn, decodeDef, decodeIn}
-use Rattle.instruction.proofs.Every.{both, both-left, both-right, at}
+use Rattle.instruction.specs.Table.{Row, row, generics, tableOf}
+use Rattle.instruction.specs.Slot.{slotOf}
+use Rattle.instruction.specs.Decode.{findWord, genericOf, genericIn, decodeDef, decodeIn}
+use Rattle.instruction.proofs.Choice.{no}
+use Rattle.instruction.proofs.Every.{both, both-left, both-right, passes, at}
 
 -- whether an instruction is the generic one of a slot
 unfoldable pub isAt : ℕ → Instruction → Bool
@@ -39,32 +41,35 @@ entry w e =
     is-at (slotOf w) (findWord w generics)
     (subst (λ (x : ℕ). T (isAt (slotOf x) (findWord x generics))) e (at entry-at tableOf tt (slotOf w) (omega arith)))
 
--- each generic instruction stands at its slot
+-- each generic instruction stands at its slot, which is that of its word: one test for all rows, and so for each
 row-stands : Row → Bool
-unfolding tableOf
-row-stands r = eqb (getD tableOf (slotOf (r .word)) 0) (r .word)
+unfolding tableOf generics
+row-stands r = both (eqb (slotOf (r .word)) (r .slot)) (eqb (getD tableOf (r .slot) 0) (r .word))
 
-all-stand : List Row → Bool
-all-stand [] = true
-all-stand (r ∷ rs) = both (row-stands r) (all-stand rs)
+stands : (r : Row) → List·Memᴰ r generics → T (row-stands r)
+unfolding row-stands tableOf generics
+stands r m = passes row-stands r generics tt m
 
-stands-by : (w : ℕ) (r : Row) (rs : List Row) (b : Bool) → eqb (r .word) w ≡ b → T (all-stand (r ∷ rs))
-    → (getD tableOf (slotOf w) 0 ≡ w → ⊥) → (T (all-stand rs) → findWord w rs ≡ Unknown)
-    → cond b (Generic (r .slot)) (findWord w rs) ≡ Unknown
-unfolding all-stand row-stands tableOf
-stands-by w r rs true e t none rest =
-    absurd (none (subst (λ (x : ℕ). getD tableOf (slotOf x) 0 ≡ x) (eqb-true _ _ e) (eqb→eq _ _ (both-left (row-stands r) (all-stand rs) t))))
-stands-by w r rs false e t none rest = rest (both-right (row-stands r) (all-stand rs) t)
+pub slots : (slot word : ℕ) → List·Memᴰ (row slot word) generics → getD tableOf slot 0 ≡ word
+unfolding row-stands
+slots slot word m = eqb→eq _ _ (both-right (eqb (slotOf word) slot) _ (stands (row slot word) m))
 
-stands : (w : ℕ) (rs : List Row) → T (all-stand rs) → (getD tableOf (slotOf w) 0 ≡ w → ⊥) → findWord w rs ≡ Unknown
+slot-is : (slot word : ℕ) → List·Memᴰ (row slot word) generics → slotOf word ≡ slot
+unfolding row-stands
+slot-is slot word m = eqb→eq _ _ (both-left (eqb (slotOf word) slot) _ (stands (row slot word) m))
+
+-- a word that does not stand at its slot is in no row
+absent : (w : ℕ) (rows : List Row) → ((r : Row) → List·Memᴰ r rows → r .word ≡ w → ⊥) → findWord w rows ≡ Unknown
 unfolding findWord
-stands w [] t none = refl
-stands w (r ∷ rs) t none = stands-by w r rs (eqb (r .word) w) refl t none (λ u. stands w rs u none)
+absent w [] none = refl
+absent w (r ∷ rows) none =
+    no _ _ (ne-eqb (r .word) w (none r (List·Memᴰ·head refl))) ∙ absent w rows (λ x m. none x (List·Memᴰ·tail m))
 
 generic-by : (w : ℕ) (b : Bool) → eqb (getD tableOf (slotOf w) 0) w ≡ b → cond b (Generic (slotOf w)) Unknown ≡ findWord w generics
-unfolding all-stand row-stands tableOf generics
 generic-by w true e = sym (entry w (eqb-true _ _ e))
-generic-by w false e = sym (stands w generics tt (eqb-false _ _ e))
+generic-by w false e =
+    sym (absent w generics (λ r m d. eqb-false _ _ e
+    (ap (λ (x : ℕ). getD tableOf (slotOf x) 0) (sym d) ∙ ap (λ (i : ℕ). getD tableOf i 0) (slot-is (r .slot) (r .word) m) ∙ slots (r .slot) (r .word) m ∙ d)))
 
 generic-same : (w : ℕ) → genericIn tableOf w ≡ genericOf w
 unfolding genericIn genericOf

@@ -1,3 +1,4 @@
+pub mod Field
 pub mod Opcode
 pub mod Slot
 pub mod Table

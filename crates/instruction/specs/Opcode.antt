@@ -1,5 +1,6 @@
 -- The opcodes of the memory-reference instructions (I2).
 use Prim.Native.Nat.{ℕ}
+use mathlib.Core.List.{List, [], _∷_}
 
 abbrev pub JMP : ℕ
 JMP = 0o1
@@ -33,3 +34,9 @@ IRS = 0o12
 
 abbrev pub LDX : ℕ
 LDX = 0o15
+
+-- those that go with a tag and without; LDX goes with one only (I2)
+abbrev pub opcodes : List ℕ
+opcodes =
+    JMP ∷ LDA ∷ ANA ∷ STA ∷ ERA ∷
+    ADD ∷ SUB ∷ JST ∷ CAS ∷ IRS ∷ []

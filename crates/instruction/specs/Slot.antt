@@ -1,96 +1,99 @@
--- A generic instruction is known by its slot in the table. The slots have no meaning beyond that: they are where the decoder finds each word.
---
-use Prim.Native.Nat.{ℕ}
+-- A generic instruction is known by its slot in the table that the decoder looks into.
+use Prim.Native.Nat.{ℕ, _*_, _/_, _%_}
+
+-- the slot of a word. The factor means nothing: under it no two words of the table share a slot
+abbrev pub slotOf : ℕ → ℕ
+slotOf w = w * 21093 / 1024 % 64
 
 abbrev pub HLT : ℕ
-HLT = 0
+HLT = slotOf 0o000000
 
 abbrev pub SKP : ℕ
-SKP = 32
+SKP = slotOf 0o100000
 
 abbrev pub NOP : ℕ
-NOP = 47
+NOP = slotOf 0o101000
 
 abbrev pub SRC : ℕ
-SRC = 38
+SRC = slotOf 0o100001
 
 abbrev pub SSC : ℕ
-SSC = 54
+SSC = slotOf 0o101001
 
 abbrev pub SS1 : ℕ
-SS1 = 27
+SS1 = slotOf 0o101020
 
 abbrev pub SS2 : ℕ
-SS2 = 37
+SS2 = slotOf 0o101010
 
 abbrev pub SS3 : ℕ
-SS3 = 10
+SS3 = slotOf 0o101004
 
 abbrev pub SS4 : ℕ
-SS4 = 61
+SS4 = slotOf 0o101002
 
 abbrev pub SSS : ℕ
-SSS = 58
+SSS = slotOf 0o101036
 
 abbrev pub SSR : ℕ
-SSR = 43
+SSR = slotOf 0o100036
 
 abbrev pub SZE : ℕ
-SZE = 56
+SZE = slotOf 0o100040
 
 abbrev pub SNZ : ℕ
-SNZ = 8
+SNZ = slotOf 0o101040
 
 abbrev pub SPL : ℕ
-SPL = 39
+SPL = slotOf 0o100400
 
 abbrev pub SMI : ℕ
-SMI = 55
+SMI = slotOf 0o101400
 
 abbrev pub SLZ : ℕ
-SLZ = 17
+SLZ = slotOf 0o100100
 
 abbrev pub SLN : ℕ
-SLN = 33
+SLN = slotOf 0o101100
 
 abbrev pub CRA : ℕ
-CRA = 40
+CRA = slotOf 0o140040
 
 abbrev pub CMA : ℕ
-CMA = 30
+CMA = slotOf 0o140401
 
 abbrev pub TCA : ℕ
-TCA = 7
+TCA = slotOf 0o140407
 
 abbrev pub CHS : ℕ
-CHS = 23
+CHS = slotOf 0o140024
 
 abbrev pub SSP : ℕ
-SSP = 1
+SSP = slotOf 0o140100
 
 abbrev pub SSM : ℕ
-SSM = 9
+SSM = slotOf 0o140500
 
 abbrev pub CSA : ℕ
-CSA = 18
+CSA = slotOf 0o140320
 
 abbrev pub CAR : ℕ
-CAR = 19
+CAR = slotOf 0o141044
 
 abbrev pub CAL : ℕ
-CAL = 46
+CAL = slotOf 0o141050
 
 abbrev pub ICL : ℕ
-ICL = 42
+ICL = slotOf 0o141140
 
 abbrev pub AOA : ℕ
-AOA = 44
+AOA = slotOf 0o141206
 
 abbrev pub ACA : ℕ
-ACA = 34
+ACA = slotOf 0o141216
 
 abbrev pub ICR : ℕ
-ICR = 28
+ICR = slotOf 0o141240
 
 abbrev pub ICA : ℕ
-ICA = 14
+ICA = slotOf 0o141340

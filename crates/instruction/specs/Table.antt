@@ -1,7 +1,12 @@
--- The generic instructions by their words (I10).
+-- The shifts by their kinds (I11), and the generic instructions by their words (I10).
 use Prim.Native.Nat.{ℕ}
 use mathlib.Core.List.{List, [], _∷_}
+use lib.ListN.{replicate, set}
+use Rattle.word.specs.Shift.{LGR, ARS, ARR, LGL, ALS, ALR}
 use Rattle.instruction.specs.Slot.{ACA, AOA, CAL, CAR, CHS, CMA, CRA, CSA, HLT, ICA, ICL, ICR, NOP, SKP, SLN, SLZ, SMI, SNZ, SPL, SRC, SS1, SS2, SS3, SS4, SSC, SSM, SSP, SSR, SSS, SZE, TCA}
+
+abbrev pub shiftKinds : List ℕ
+shiftKinds = LGR ∷ ARS ∷ ARR ∷ LGL ∷ ALS ∷ ALR ∷ []
 
 pub record Row : Type 0 where
   pub slot : ℕ
@@ -19,14 +24,12 @@ generics =
     row CAR 0o141044 ∷ row CAL 0o141050 ∷ row ICL 0o141140 ∷ row AOA 0o141206 ∷ row ACA 0o141216 ∷ row ICR 0o141240 ∷
     row ICA 0o141340 ∷ []
 
--- the same words, each at its slot; a slot that no instruction has holds 0
+-- each word at its slot; a slot that no instruction has holds 0
+abbrev pub laid : List Row → List ℕ
+laid [] = replicate 64 0
+laid (r ∷ rs) = set (laid rs) (r .slot) (r .word)
+
+-- the table that the decoder looks into
 unfoldable pub tableOf : List ℕ
-tableOf =
-    0o000000 ∷ 0o140100 ∷ 0o000000 ∷ 0o000000 ∷ 0o000000 ∷ 0o000000 ∷ 0o000000 ∷ 0o140407 ∷
-    0o101040 ∷ 0o140500 ∷ 0o101004 ∷ 0o000000 ∷ 0o000000 ∷ 0o000000 ∷ 0o141340 ∷ 0o000000 ∷
-    0o000000 ∷ 0o100100 ∷ 0o140320 ∷ 0o141044 ∷ 0o000000 ∷ 0o000000 ∷ 0o000000 ∷ 0o140024 ∷
-    0o000000 ∷ 0o000000 ∷ 0o000000 ∷ 0o101020 ∷ 0o141240 ∷ 0o000000 ∷ 0o140401 ∷ 0o000000 ∷
-    0o100000 ∷ 0o101100 ∷ 0o141216 ∷ 0o000000 ∷ 0o000000 ∷ 0o101010 ∷ 0o100001 ∷ 0o100400 ∷
-    0o140040 ∷ 0o000000 ∷ 0o141140 ∷ 0o100036 ∷ 0o141206 ∷ 0o000000 ∷ 0o141050 ∷ 0o101000 ∷
-    0o000000 ∷ 0o000000 ∷ 0o000000 ∷ 0o000000 ∷ 0o000000 ∷ 0o000000 ∷ 0o101001 ∷ 0o101400 ∷
-    0o100040 ∷ 0o000000 ∷ 0o101036 ∷ 0o000000 ∷ 0o000000 ∷ 0o101002 ∷ 0o000000 ∷ 0o000000 ∷ []
+unfolding generics
+tableOf = laid generics

@@ -1,62 +1,79 @@
-// The slot of each generic instruction in the table, in the order of specs/Slot.
-pub const HLT: usize = 0;
+// Where each generic instruction stands in the table: its word decides, so that the decoder looks at one slot.
+ghost use mathlib.Core.Path.{_≡_};
+ghost use Prim.Native.Nat.{_<_};
+ghost use Rattle.instruction.specs.Slot.{slotOf};
 
-pub const SKP: usize = 32;
+// Under this factor no two of the instructions share a slot.
+const FACTOR: usize = 21093;
 
-pub const NOP: usize = 47;
+const DIVISOR: usize = 1024;
 
-pub const SRC: usize = 38;
+pub const COUNT: usize = 64;
 
-pub const SSC: usize = 54;
+pub fn of(w: u16) -> usize
+    ensures { λ r. ⌜ (r ≡ slotOf w) × (r < 64) ⌝ }
+{
+    w as usize * FACTOR / DIVISOR % COUNT
+}
 
-pub const SS1: usize = 27;
+pub const HLT: usize = 0o000000 * FACTOR / DIVISOR % COUNT;
 
-pub const SS2: usize = 37;
+pub const SKP: usize = 0o100000 * FACTOR / DIVISOR % COUNT;
 
-pub const SS3: usize = 10;
+pub const NOP: usize = 0o101000 * FACTOR / DIVISOR % COUNT;
 
-pub const SS4: usize = 61;
+pub const SRC: usize = 0o100001 * FACTOR / DIVISOR % COUNT;
 
-pub const SSS: usize = 58;
+pub const SSC: usize = 0o101001 * FACTOR / DIVISOR % COUNT;
 
-pub const SSR: usize = 43;
+pub const SS1: usize = 0o101020 * FACTOR / DIVISOR % COUNT;
 
-pub const SZE: usize = 56;
+pub const SS2: usize = 0o101010 * FACTOR / DIVISOR % COUNT;
 
-pub const SNZ: usize = 8;
+pub const SS3: usize = 0o101004 * FACTOR / DIVISOR % COUNT;
 
-pub const SPL: usize = 39;
+pub const SS4: usize = 0o101002 * FACTOR / DIVISOR % COUNT;
 
-pub const SMI: usize = 55;
+pub const SSS: usize = 0o101036 * FACTOR / DIVISOR % COUNT;
 
-pub const SLZ: usize = 17;
+pub const SSR: usize = 0o100036 * FACTOR / DIVISOR % COUNT;
 
-pub const SLN: usize = 33;
+pub const SZE: usize = 0o100040 * FACTOR / DIVISOR % COUNT;
 
-pub const CRA: usize = 40;
+pub const SNZ: usize = 0o101040 * FACTOR / DIVISOR % COUNT;
 
-pub const CMA: usize = 30;
+pub const SPL: usize = 0o100400 * FACTOR / DIVISOR % COUNT;
 
-pub const TCA: usize = 7;
+pub const SMI: usize = 0o101400 * FACTOR / DIVISOR % COUNT;
 
-pub const CHS: usize = 23;
+pub const SLZ: usize = 0o100100 * FACTOR / DIVISOR % COUNT;
 
-pub const SSP: usize = 1;
+pub const SLN: usize = 0o101100 * FACTOR / DIVISOR % COUNT;
 
-pub const SSM: usize = 9;
+pub const CRA: usize = 0o140040 * FACTOR / DIVISOR % COUNT;
 
-pub const CSA: usize = 18;
+pub const CMA: usize = 0o140401 * FACTOR / DIVISOR % COUNT;
 
-pub const CAR: usize = 19;
+pub const TCA: usize = 0o140407 * FACTOR / DIVISOR % COUNT;
 
-pub const CAL: usize = 46;
+pub const CHS: usize = 0o140024 * FACTOR / DIVISOR % COUNT;
 
-pub const ICL: usize = 42;
+pub const SSP: usize = 0o140100 * FACTOR / DIVISOR % COUNT;
 
-pub const AOA: usize = 44;
+pub const SSM: usize = 0o140500 * FACTOR / DIVISOR % COUNT;
 
-pub const ACA: usize = 34;
+pub const CSA: usize = 0o140320 * FACTOR / DIVISOR % COUNT;
 
-pub const ICR: usize = 28;
+pub const CAR: usize = 0o141044 * FACTOR / DIVISOR % COUNT;
 
-pub const ICA: usize = 14;
+pub const CAL: usize = 0o141050 * FACTOR / DIVISOR % COUNT;
+
+pub const ICL: usize = 0o141140 * FACTOR / DIVISOR % COUNT;
+
+pub const AOA: usize = 0o141206 * FACTOR / DIVISOR % COUNT;
+
+pub const ACA: usize = 0o141216 * FACTOR / DIVISOR % COUNT;
+
+pub const ICR: usize = 0o141240 * FACTOR / DIVISOR % COUNT;
+
+pub const ICA: usize = 0o141340 * FACTOR / DIVISOR % COUNT;

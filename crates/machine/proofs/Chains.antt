@@ -5,9 +5,8 @@ use mathlib.Core.Bool.{Bool, true, false}
 use mathlib.Core.List.{List}
 use native.Mathlib.Nat.{not-suc-le-zero}
 use native.Mathlib.Omega.{arith}
-use lib.Dec.{leb}
 use lib.ListN.{getD}
-use Rattle.instruction.specs.Decode.{flagAt}
+use Rattle.instruction.specs.Field.{indirectOf, tagOf}
 use Rattle.instruction.proofs.Choice.{cond-all}
 use Rattle.machine.specs.declared.address.Address.{Address}
 use Rattle.machine.specs.declared.address.Address.the-variants.{At, Long}
@@ -25,15 +24,15 @@ follow-long image at = refl
 
 -- the address that the word w gives
 abbrev pub onwards : List ℕ → ℕ → ℕ
-onwards image w = indexedOf (w % 16384) (flagAt w 0o40000) (getD image 0 0)
+onwards image w = indexedOf (w % 16384) (tagOf w) (getD image 0 0)
 
 pub follow-more : (image : List ℕ) (n at : ℕ) → 0 < n
-    → followOf image n true at ≡ followOf image (n - 1) (leb 0o100000 (getD image at 0)) (onwards image (getD image at 0))
+    → followOf image n true at ≡ followOf image (n - 1) (indirectOf (getD image at 0)) (onwards image (getD image at 0))
 unfolding followOf
 follow-more image zero at h = absurd (not-suc-le-zero h)
 follow-more image (suc n) at h =
     let e : n ≡ suc n - 1 = omega arith in
-    ap (λ (k : ℕ). followOf image k (leb 0o100000 (getD image at 0)) (onwards image (getD image at 0))) e
+    ap (λ (k : ℕ). followOf image k (indirectOf (getD image at 0)) (onwards image (getD image at 0))) e
 
 -- an address that is reached is one of the image's
 abbrev pub Below : Address → Type 0
@@ -49,7 +48,7 @@ follow-below image zero at indirect h = cond-all Below indirect tt h
 follow-below image (suc n) at indirect h =
     let w = getD image at 0 in
     cond-all Below indirect
-    (follow-below image n (onwards image w) (leb 0o100000 w) (indexed-below (w % 16384) (getD image 0 0) (flagAt w 0o40000) (omega arith)))
+    (follow-below image n (onwards image w) (indirectOf w) (indexed-below (w % 16384) (getD image 0 0) (tagOf w) (omega arith)))
     h
 
 pub address-below : (image : List ℕ) (p : ℕ) (indirect tag sector : Bool) (address : ℕ) → p < 16384 → address < 512

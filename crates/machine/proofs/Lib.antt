@@ -1,4 +1,4 @@
 pub mod Chains
 pub mod Ticks
 pub mod Good
-pub mod Turns
+pub mod RunSteps

@@ -2,9 +2,8 @@
 use Prim.Native.Nat.{ℕ, zero, suc, _+_, _-_, _*_, _/_, _%_}
 use mathlib.Core.Bool.{Bool, cond}
 use mathlib.Core.List.{List}
-use lib.Dec.{leb}
 use lib.ListN.{getD}
-use Rattle.instruction.specs.Decode.{flagAt}
+use Rattle.instruction.specs.Field.{indirectOf, tagOf}
 use Rattle.machine.specs.declared.address.Address.{Address}
 use Rattle.machine.specs.declared.address.Address.the-variants.{At, Long}
 
@@ -21,7 +20,7 @@ unfoldable pub followOf : List ℕ → ℕ → Bool → ℕ → Address
 followOf image zero indirect at = cond indirect Long (At at 16)
 followOf image (suc n) indirect at =
     let w = getD image at 0 in
-    cond indirect (followOf image n (leb 0o100000 w) (indexedOf (w % 16384) (flagAt w 0o40000) (getD image 0 0))) (At at (16 - suc n))
+    cond indirect (followOf image n (indirectOf w) (indexedOf (w % 16384) (tagOf w) (getD image 0 0))) (At at (16 - suc n))
 
 -- E, by an instruction's parts (I3, I5)
 abbrev pub addressOf : List ℕ → ℕ → Bool → Bool → Bool → ℕ → Address

@@ -7,13 +7,13 @@ use Rattle.machine.specs.declared.Request.{Request}
 
 -- one step further, in 32 bits (R8)
 abbrev pub spend : Request → Clock → Clock
-spend q k = record { common = (k .common + 1) % 2 ^ 32 }
+spend request clock = record { common = (clock .common + 1) % 2 ^ 32 }
 
 -- as many steps further as were made (R8)
 unfoldable pub spendMany : Request → ℕ → Clock → Clock
-spendMany q zero k = k
-spendMany q (suc n) k = spend q (spendMany q n k)
+spendMany request zero clock = clock
+spendMany request (suc n) clock = spend request (spendMany request n clock)
 
--- whether a deadline has come, though the clock may have passed through zero since it was set (R9)
-abbrev pub dueOf : Clock → ℕ → Bool
-dueOf k deadline = ltb ((k .common + 2 ^ 32 - deadline) % 2 ^ 32) (2 ^ 31)
+-- whether a deadline has come by the clock's number, though that may have passed through zero since it was set (R9)
+abbrev pub dueOf : ℕ → ℕ → Bool
+dueOf common deadline = ltb ((common + 2 ^ 32 - deadline) % 2 ^ 32) (2 ^ 31)

@@ -4,3 +4,4 @@ pub mod Address
 pub mod Step
 pub mod Clock
 pub mod Run
+pub mod Examples

@@ -22,13 +22,13 @@ use Rattle.machine.specs.Failure.{unknownWord, longChain}
 use Rattle.machine.specs.State.{State, state, atP, withRegisters, stopped}
 use Rattle.machine.specs.Address.{addressOf}
 
--- P after an instruction that skips k words, wrapped to the memory (I4)
+-- P after an instruction that skips so many words, wrapped to the memory (I4)
 abbrev pub pastOf : ℕ → ℕ → ℕ
-pastOf p k = (p + 1 + k) % 16384
+pastOf p skipped = (p + 1 + skipped) % 16384
 
--- on to the k-th word after the next
+-- P past the words skipped
 abbrev pub onward : Machine → ℕ → Machine
-onward m k = atP m (pastOf (m .p) k)
+onward m skipped = atP m (pastOf (m .p) skipped)
 
 -- IRS: one more, and a skip where that comes to 0 (I8)
 abbrev pub incrementDef : ℕ → Machine → List ℕ → State
@@ -68,7 +68,7 @@ memoryStep opcode m image Long = failed longChain
 -- what an instruction does; a word that is none fails (F20)
 abbrev pub perform : Machine → List ℕ → Instruction → Step
 perform m image (Memory opcode indirect tag sector address) = memoryStep opcode m image (addressOf image (m .p) indirect tag sector address)
-perform m image (Shift kind n) = made (state (onward (withRegisters m (shiftedOf kind n (m .registers))) 0) image)
+perform m image (Shift kind amount) = made (state (onward (withRegisters m (shiftedOf kind amount (m .registers))) 0) image)
 perform m image (Generic slot) = made (state (genericDef slot m) image)
 perform m image Unknown = failed unknownWord
 

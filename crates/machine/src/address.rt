@@ -3,6 +3,8 @@ ghost use mathlib.Core.Path.{_≡_};
 ghost use Prim.Native.Nat.{_<_};
 ghost use lib.ListN.{length, getD};
 ghost use Rattle.machine.specs.Address.{baseOf, indexedOf, followOf};
+use crate::MEMORY;
+use instruction::field;
 
 // An address with the number of indirect words passed, or a chain of more than 16.
 pub enum Address {
@@ -28,7 +30,7 @@ pub fn indexed(image: &[u16], at: u16, tag: bool) -> u16
 {
     if tag {
         let x = image[0];
-        ((at as u32 + x as u32) % 16384) as u16
+        (at + x % MEMORY) % MEMORY
     } else {
         at
     }
@@ -41,15 +43,15 @@ pub fn follow(image: &[u16], indirect: bool, at: u16) -> Address
 {
     let mut at = at;
     let mut indirect = indirect;
-    let mut left: u16 = 16;
+    let mut remaining: u16 = 16;
     while indirect {
-        if left == 0 {
+        if remaining == 0 {
             return Address::Long;
         }
         let w = image[at as usize];
-        at = indexed(image, w % 16384, w / 0o40000 % 2 == 1);
-        indirect = 0o100000 <= w;
-        left -= 1;
+        at = indexed(image, w % MEMORY, field::is_tagged(w));
+        indirect = field::is_indirect(w);
+        remaining -= 1;
     }
-    Address::At(at, 16 - left)
+    Address::At(at, 16 - remaining)
 }

@@ -4,7 +4,7 @@ ghost use Prim.Native.Nat.{_<_};
 ghost use lib.ListN.{length};
 ghost use Rattle.machine.specs.State.{state};
 ghost use Rattle.machine.specs.Clock.{spendMany, dueOf};
-ghost use Rattle.machine.specs.Run.{endedOf, runFrom, runDef, Reports};
+ghost use Rattle.machine.specs.Run.{work, endedOf, refusalOf, runFrom, runDef, Reports};
 use effect::Registers;
 use effect::Switches;
 use step::Stepped;
@@ -13,9 +13,8 @@ mod address;
 pub mod failure;
 mod step;
 
-const IMAGE_WORDS: usize = 16384;
-
-const LAST_P: u16 = 16383;
+// How many words an image has: addresses wrap here.
+const MEMORY: u16 = 16384;
 
 const LARGEST_BUDGET: u32 = 1000000;
 
@@ -54,91 +53,83 @@ pub struct Report {
 }
 
 // The clock after so many steps of a run.
-fn spent(q: Request, steps: u32, k: Clock) -> Clock
-    ensures { λ r. ⌜ r ≡ spendMany q steps k ⌝ }
+fn clock_after(request: Request, steps: u32, clock: Clock) -> Clock
+    ensures { λ r. ⌜ r ≡ spendMany request steps clock ⌝ }
 {
     Clock {
-        common: std::num::wrapping_add_u32(k.common, steps),
+        common: std::num::wrapping_add_u32(clock.common, steps),
     }
 }
 
-fn ended(q: Request, steps: u32, outcome: Outcome, m: Machine, k: Clock) -> Report
-    ensures { λ r. ⌜ r ≡ endedOf q k steps outcome m ⌝ }
+fn ended(request: Request, steps: u32, outcome: Outcome, m: Machine, clock: Clock) -> Report
+    ensures { λ r. ⌜ r ≡ endedOf request clock (work steps) outcome m ⌝ }
 {
-    let clock = spent(q, steps, k);
     Report {
         steps,
         outcome,
+        machine: m,
+        clock: clock_after(request, steps, clock),
+    }
+}
+
+fn refused(number: u16, m: Machine, clock: Clock) -> Report
+    ensures { λ r. ⌜ r ≡ refusalOf number m clock ⌝ }
+{
+    Report {
+        steps: 0,
+        outcome: Outcome::Failed(number),
         machine: m,
         clock,
     }
 }
 
 // Up to the budget's steps, on an image of the right length with P in it.
-fn steps(image: &mut [u16], m: Machine, k: Clock, q: Request) -> Report
+fn make_steps(image: &mut [u16], m: Machine, clock: Clock, request: Request) -> Report
     requires { ⌜ (length (now image) ≡ 16384) × (m .p < 16384) ⌝ }
-    ensures { λ r. ⌜ Reports q k (runFrom (q .budget) (state m (now (image .entry)))) r (now (image .exit)) ⌝ }
+    ensures { λ r. ⌜ Reports request clock (runFrom (request .budget) (state m (now (image .entry)))) r (now (image .exit)) ⌝ }
 {
     let table = instruction::table();
-    let budget = q.budget;
+    let budget = request.budget;
     let mut m = m;
-    let mut i: u32 = 0;
+    let mut steps: u32 = 0;
     loop {
         if m.halted {
-            return ended(q, i, Outcome::Halted, m, k);
+            return ended(request, steps, Outcome::Halted, m, clock);
         }
-        if i == budget {
-            return ended(q, i, Outcome::Spent, m, k);
+        if steps == budget {
+            return ended(request, steps, Outcome::Spent, m, clock);
         }
-        let s = step::step(&table, &mut *image, m);
-        match s {
-            Stepped::Made(n) => {
-                m = n;
+        let stepped = step::step(&table, &mut *image, m);
+        match stepped {
+            Stepped::Made(next) => {
+                m = next;
             }
-            Stepped::Failed(f) => {
-                return ended(q, i, Outcome::Failed(f), m, k);
+            Stepped::Failed(number) => {
+                return ended(request, steps, Outcome::Failed(number), m, clock);
             }
         }
-        i += 1;
+        steps += 1;
     }
 }
 
 pub fn run(image: &mut [u16], machine: Machine, clock: Clock, request: Request) -> Report
     ensures { λ r. ⌜ Reports request clock (runDef request (state machine (now (image .entry)))) r (now (image .exit)) ⌝ }
 {
-    if image.len() != IMAGE_WORDS {
-        return ended(
-            request,
-            0,
-            Outcome::Failed(failure::WRONG_IMAGE),
-            machine,
-            clock,
-        );
+    if image.len() != MEMORY as usize {
+        return refused(failure::WRONG_IMAGE, machine, clock);
     }
-    if LAST_P < machine.p {
-        return ended(
-            request,
-            0,
-            Outcome::Failed(failure::WRONG_P),
-            machine,
-            clock,
-        );
+    if MEMORY <= machine.p {
+        return refused(failure::WRONG_P, machine, clock);
     }
     if LARGEST_BUDGET < request.budget {
-        return ended(
-            request,
-            0,
-            Outcome::Failed(failure::OVER_BUDGET),
-            machine,
-            clock,
-        );
+        return refused(failure::OVER_BUDGET, machine, clock);
     }
-    steps(&mut *image, machine, clock, request)
+    make_steps(&mut *image, machine, clock, request)
 }
 
 // Whether a deadline has come, up to 2^31 - 1 steps ago; the clock may have wrapped since it was set.
 pub fn due(clock: Clock, deadline: u32) -> bool
-    ensures { λ r. ⌜ r ≡ dueOf clock deadline ⌝ }
+    ensures { λ r. ⌜ r ≡ dueOf (clock .common) deadline ⌝ }
 {
     std::num::wrapping_sub_u32(clock.common, deadline) < HALF_RANGE
 }

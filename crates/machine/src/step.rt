@@ -3,8 +3,9 @@ ghost use mathlib.Core.Path.{_≡_};
 ghost use Prim.Native.Nat.{_<_};
 ghost use lib.ListN.{length};
 ghost use Rattle.instruction.specs.Table.{tableOf};
-ghost use Rattle.machine.specs.State.{state, withRegisters, Leaves};
+ghost use Rattle.machine.specs.State.{state, atP, withRegisters, Leaves};
 ghost use Rattle.machine.specs.Step.{pastOf, onward, incrementDef, memoryDef, genericDef, stepDef, Makes};
+use crate::MEMORY;
 use crate::Machine;
 use crate::address;
 use crate::address::Address;
@@ -20,71 +21,65 @@ pub enum Stepped {
     Failed(u16),
 }
 
-// P after an instruction that skips k words.
-fn past(p: u16, k: u16) -> u16
-    requires { ⌜ (p < 16384) × (k < 3) ⌝ }
-    ensures { λ r. ⌜ (r ≡ pastOf p k) × (r < 16384) ⌝ }
+// P after an instruction that skips so many words.
+fn past(p: u16, skipped: u16) -> u16
+    requires { ⌜ (p < 16384) × (skipped < 3) ⌝ }
+    ensures { λ r. ⌜ (r ≡ pastOf p skipped) × (r < 16384) ⌝ }
 {
-    (p + 1 + k) % 16384
+    (p + 1 + skipped) % MEMORY
 }
 
-// The registers r, and on to the k-th word after the next.
-fn advance(m: Machine, r: Registers, k: u16) -> Machine
-    requires { ⌜ (m .p < 16384) × (k < 3) ⌝ }
-    ensures { λ n. ⌜ n ≡ onward (withRegisters m r) k ⌝ }
+fn jump(m: Machine, p: u16) -> Machine
+    ensures { λ next. ⌜ next ≡ atP m p ⌝ }
 {
-    let mut n = m;
-    n.registers = r;
-    n.p = past(m.p, k);
-    n
+    let mut next = m;
+    next.p = p;
+    next
+}
+
+// With these registers, and P past the words skipped.
+fn advance(m: Machine, registers: Registers, skipped: u16) -> Machine
+    requires { ⌜ (m .p < 16384) × (skipped < 3) ⌝ }
+    ensures { λ next. ⌜ next ≡ onward (withRegisters m registers) skipped ⌝ }
+{
+    let mut next = m;
+    next.registers = registers;
+    next.p = past(m.p, skipped);
+    next
 }
 
 // IRS at its effective address e.
 fn increment(image: &mut [u16], m: Machine, e: u16) -> Machine
     requires { ⌜ (length (now image) ≡ 16384) × (m .p < 16384) × (e < 16384) ⌝ }
-    ensures { λ r. ⌜ Leaves (incrementDef e m (now (image .entry))) r (now (image .exit)) ⌝ }
+    ensures { λ next. ⌜ Leaves (incrementDef e m (now (image .entry))) next (now (image .exit)) ⌝ }
 {
-    let mut n = m;
     let w = ((image[e as usize] as u32 + 1) % 65536) as u16;
     image[e as usize] = w;
-    n.p = past(m.p, word::bit(w == 0));
-    n
+    advance(m, m.registers, word::bit(w == 0))
 }
 
 // A memory-reference instruction at its effective address e.
 fn memory(image: &mut [u16], m: Machine, opcode: u16, e: u16) -> Machine
     requires { ⌜ (length (now image) ≡ 16384) × (m .p < 16384) × (e < 16384) ⌝ }
-    ensures { λ r. ⌜ Leaves (memoryDef opcode e m (now (image .entry))) r (now (image .exit)) ⌝ }
+    ensures { λ next. ⌜ Leaves (memoryDef opcode e m (now (image .entry))) next (now (image .exit)) ⌝ }
 {
     let r = m.registers;
-    let p = m.p;
-    let a = r.a;
-    let mut n = m;
     let v = image[e as usize];
     match opcode {
-        opcode::JMP => {
-            n.p = e;
-            n
-        }
+        opcode::JMP => jump(m, e),
         opcode::STA => {
-            image[e as usize] = a;
-            n.p = past(p, 0);
-            n
+            image[e as usize] = r.a;
+            advance(m, r, 0)
         }
         opcode::JST => {
-            image[e as usize] = v / 16384 * 16384 + past(p, 0);
-            n.p = past(e, 0);
-            n
+            image[e as usize] = v / MEMORY * MEMORY + past(m.p, 0);
+            jump(m, past(e, 0))
         }
-        opcode::CAS => {
-            n.p = past(p, word::compare(a, v));
-            n
-        }
+        opcode::CAS => advance(m, r, word::compare(r.a, v)),
         opcode::IRS => increment(&mut *image, m, e),
         opcode::LDX => {
             image[0] = v;
-            n.p = past(p, 0);
-            n
+            advance(m, r, 0)
         }
         _ => advance(m, effect::operate(opcode, v, r), 0),
     }
@@ -92,20 +87,19 @@ fn memory(image: &mut [u16], m: Machine, opcode: u16, e: u16) -> Machine
 
 fn generic(m: Machine, slot: usize) -> Machine
     requires { ⌜ m .p < 16384 ⌝ }
-    ensures { λ n. ⌜ n ≡ genericDef slot m ⌝ }
+    ensures { λ next. ⌜ next ≡ genericDef slot m ⌝ }
 {
     let r = m.registers;
-    let s = m.switches;
     if slot == slot::HLT {
-        let mut n = advance(m, r, 0);
-        n.halted = true;
-        return n;
+        let mut next = advance(m, r, 0);
+        next.halted = true;
+        return next;
     }
-    let k = word::bit(effect::skips(slot, r, s));
-    advance(m, effect::unary(slot, r), k)
+    let skipped = word::bit(effect::skips(slot, r, m.switches));
+    advance(m, effect::unary(slot, r), skipped)
 }
 
-pub fn step(table: &[u16; 64], image: &mut [u16], m: Machine) -> Stepped
+pub fn step(table: &[u16; slot::COUNT], image: &mut [u16], m: Machine) -> Stepped
     requires { ⌜ (now table ≡ tableOf) × (length (now image) ≡ 16384) × (m .p < 16384) ⌝ }
     ensures { λ r. ⌜ Makes (now (image .entry)) (stepDef (state m (now (image .entry)))) r (now (image .exit)) ⌝ }
 {

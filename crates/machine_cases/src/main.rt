@@ -1,4 +1,6 @@
 // The limits of the machine (R3 to R9, F1, F20 to F23, J12), by name: each case prints what came out.
+use case_output::decimal;
+use case_output::text;
 use effect::Registers;
 use effect::Switches;
 use image::CHAIN;
@@ -39,18 +41,18 @@ fn machine_at(p: u16, halted: bool) -> Machine {
 
 fn print_report(name: &[u8], r: Report, kept: bool) {
     let o = r.outcome;
-    print::text(name);
+    text(name);
     print::outcome(o);
-    print::decimal(r.steps);
+    decimal(r.steps);
     if kept {
-        print::text(b" steps, state kept, P ");
+        text(b" steps, state kept, P ");
     } else {
-        print::text(b" steps, state changed, P ");
+        text(b" steps, state changed, P ");
     }
-    print::decimal(r.machine.p as u32);
-    print::text(b", clock ");
-    print::decimal(r.clock.common);
-    print::text(b"\n");
+    decimal(r.machine.p as u32);
+    text(b", clock ");
+    decimal(r.clock.common);
+    text(b"\n");
 }
 
 // A run on an image of so many words.
@@ -123,11 +125,11 @@ fn clocks() {
 }
 
 fn deadline(name: &[u8], clock: u32, deadline: u32) {
-    print::text(name);
+    text(name);
     if machine::due(Clock { common: clock }, deadline) {
-        print::text(b": due\n");
+        text(b": due\n");
     } else {
-        print::text(b": not due\n");
+        text(b": not due\n");
     }
 }
 

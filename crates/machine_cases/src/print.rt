@@ -1,14 +1,7 @@
-// Printing what came out.
-use libc::STDOUT_FILENO;
+// Printing how a run ended, in words.
+use case_output::decimal;
+use case_output::text;
 use machine::Outcome;
-
-pub fn text(s: &[u8]) {
-    io::write_all(STDOUT_FILENO, s);
-}
-
-pub fn decimal(n: u32) {
-    io::print_decimal(STDOUT_FILENO, n as u64);
-}
 
 pub fn outcome(o: Outcome) {
     match o {

@@ -1,30 +1,20 @@
 -- Numbers that pass the test of a machine's have what the test says.
 use Prim.Native.Nat.{ℕ}
-use mathlib.Core.Path.{_≡_, refl}
-use mathlib.Core.Bool.{Bool, true, false, cond}
+use mathlib.Core.Path.{_≡_}
+use mathlib.Core.Bool.{true, and-eq-true-iff}
 use mathlib.Core.List.{List}
-use lib.Dec.{eqb, leb}
-use lib.ListN.{getD, length}
 use borrow.Author.Tests.{eqb-true, leb-true}
-use Rattle.machine_export.specs.Export.{upTo, wordsFit, fitsOf, Fitting}
+use Rattle.machine_export.specs.Export.{fitsOf, Fitting}
 
-first : (s t : Bool) → cond s t false ≡ true → s ≡ true
-first true t e = refl
-first false t e = e
-
-second : (s t : Bool) → cond s t false ≡ true → t ≡ true
-second true t e = e
-second false t e = cc
-
-pub fitting : (words : List ℕ) → fitsOf words ≡ true → Fitting words
-unfolding fitsOf upTo
-fitting words e =
-    let w = first (wordsFit words) _ (second (eqb (length words) 14) _ e) in
-    let v = second (leb (getD words 0 0) 65535) _ w in
-    let u = second (leb (getD words 1 0) 65535) _ v in
+pub fitting : (numbers : List ℕ) → fitsOf numbers ≡ true → Fitting numbers
+unfolding fitsOf
+fitting numbers e =
+    let all = and-eq-true-iff _ _ .0 (and-eq-true-iff _ _ .0 e .0) in
+    let words = and-eq-true-iff _ _ .0 (all .1) in
+    let registers = and-eq-true-iff _ _ .0 (words .0) in
     record {
-      count = eqb-true _ _ (first _ _ e);
-      a = leb-true _ _ (first _ _ w);
-      b = leb-true _ _ (first _ _ v);
-      p = leb-true _ _ (first _ _ u);
+      count = eqb-true _ _ (all .0);
+      a = leb-true _ _ (registers .0);
+      b = leb-true _ _ (registers .1);
+      p = leb-true _ _ (words .1);
     }

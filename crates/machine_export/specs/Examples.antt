@@ -1,4 +1,4 @@
--- Worked examples of the fourteen numbers, decided by computation: each place has a value of its own, so that no two can be exchanged.
+-- Worked examples of the numbers, decided by computation: each place has a value of its own, so that no two can be exchanged.
 use Prim.Native.Nat.{ℕ}
 use mathlib.Core.Path.{_≡_, refl}
 use mathlib.Core.Bool.{Bool, true, false}
@@ -6,9 +6,9 @@ use mathlib.Core.List.{List, [], _∷_, map}
 use lib.ListN.{replicate}
 use Rattle.machine.specs.declared.Clock.{Clock}
 use Rattle.machine.specs.declared.Machine.{Machine}
-use Rattle.machine.specs.declared.Outcome.{Outcome}
 use Rattle.machine.specs.declared.Outcome.the-variants.{Halted, Spent, Failed}
-use Rattle.machine_export.specs.Export.{upTo, fitsOf, machineOf, clockOf, requestOf, outcomeOf, storeFrom, withMachine, withReport}
+use Rattle.machine_export.specs.Places.{COUNT}
+use Rattle.machine_export.specs.Export.{fitsOf, machineOf, clockOf, requestOf, outcomeOf, stored, withMachine, withReport}
 
 abbrev machine : Machine
 machine =
@@ -38,9 +38,9 @@ read-request = refl
 
 -- what the call fills in: all but the budget (R11)
 written :
-    withReport (replicate 14 99) (record { steps = 16; outcome = Failed 20; machine = machine; clock = clock })
+    withReport (replicate COUNT 99) (record { steps = 16; outcome = Failed 20; machine = machine; clock = clock })
     ≡ 11 ∷ 12 ∷ 1 ∷ 13 ∷ 1 ∷ 0 ∷ 0 ∷ 1 ∷ 0 ∷ 14 ∷ 99 ∷ 2 ∷ 20 ∷ 16 ∷ []
-unfolding withReport withMachine storeFrom
+unfolding withReport withMachine stored
 written = refl
 
 endings : map {B = ℕ} outcomeOf (Halted ∷ Spent ∷ Failed 21 ∷ []) ≡ 0 ∷ 1 ∷ 2 ∷ []
@@ -53,5 +53,5 @@ fits :
     (65536 ∷ replicate 13 0) ∷ (0 ∷ 65536 ∷ replicate 12 0) ∷ (0 ∷ 0 ∷ 0 ∷ 65536 ∷ replicate 10 0) ∷
     (0 ∷ 0 ∷ 2 ∷ replicate 11 0) ∷ (0 ∷ 0 ∷ 0 ∷ 0 ∷ 0 ∷ 0 ∷ 0 ∷ 2 ∷ replicate 6 0) ∷ (0 ∷ 0 ∷ 0 ∷ 0 ∷ 0 ∷ 0 ∷ 0 ∷ 0 ∷ 2 ∷ replicate 5 0) ∷ [])
     ≡ true ∷ replicate 7 false
-unfolding fitsOf upTo
+unfolding fitsOf
 fits = refl

@@ -1,10 +1,11 @@
-// The machine for other languages, on slices of numbers (R11). specs/Export.antt says which number is what.
+// The machine for other languages, on slices of numbers (R11). specs/Places.antt says which number is what.
 ghost use mathlib.Core.Path.{_≡_};
 ghost use Prim.Native.Nat.{_<_};
 ghost use lib.ListN.{length};
 ghost use Rattle.word.specs.Arithmetic.{bit};
 ghost use Rattle.machine.specs.Failure.{failureOf};
 ghost use Rattle.machine.specs.Clock.{dueOf};
+ghost use Rattle.machine_export.specs.Places.{COUNT};
 ghost use Rattle.machine_export.specs.Export.{wordsFit, flagsFit, Fitting, fitsOf, flagOf, machineOf, outcomeOf, withMachine, withReport, Called};
 use effect::Registers;
 use effect::Switches;
@@ -44,160 +45,132 @@ const STEPS: usize = 13;
 
 const COUNT: usize = 14;
 
-fn words_fit(words: &[u32]) -> bool
-    requires { ⌜ length (now words) ≡ 14 ⌝ }
-    ensures { λ r. ⌜ r ≡ wordsFit (now (words .entry)) ⌝ }
+fn words_fit(numbers: &[u32]) -> bool
+    requires { ⌜ length (now numbers) ≡ COUNT ⌝ }
+    ensures { λ r. ⌜ r ≡ wordsFit (now (numbers .entry)) ⌝ }
 {
-    if 65535 < words[A] {
-        return false;
-    }
-    if 65535 < words[B] {
-        return false;
-    }
-    if 65535 < words[P] {
-        return false;
-    }
-    true
+    numbers[A] <= 65535 && numbers[B] <= 65535 && numbers[P] <= 65535
 }
 
-fn flags_fit(words: &[u32]) -> bool
-    requires { ⌜ length (now words) ≡ 14 ⌝ }
-    ensures { λ r. ⌜ r ≡ flagsFit (now (words .entry)) ⌝ }
+fn flags_fit(numbers: &[u32]) -> bool
+    requires { ⌜ length (now numbers) ≡ COUNT ⌝ }
+    ensures { λ r. ⌜ r ≡ flagsFit (now (numbers .entry)) ⌝ }
 {
-    if 1 < words[C] {
-        return false;
-    }
-    if 1 < words[SWITCH_1] {
-        return false;
-    }
-    if 1 < words[SWITCH_2] {
-        return false;
-    }
-    if 1 < words[SWITCH_3] {
-        return false;
-    }
-    if 1 < words[SWITCH_4] {
-        return false;
-    }
-    if 1 < words[HALTED] {
-        return false;
-    }
-    true
+    numbers[C] <= 1
+        && numbers[SWITCH_1] <= 1
+        && numbers[SWITCH_2] <= 1
+        && numbers[SWITCH_3] <= 1
+        && numbers[SWITCH_4] <= 1
+        && numbers[HALTED] <= 1
 }
 
 // Whether the numbers are a machine's: all there, words where words are due, and flags of 0 or 1.
-fn fits(words: &[u32]) -> bool
-    ensures { λ r. ⌜ r ≡ fitsOf (now (words .entry)) ⌝ }
+fn fits(numbers: &[u32]) -> bool
+    ensures { λ r. ⌜ r ≡ fitsOf (now (numbers .entry)) ⌝ }
 {
-    if words.len() != COUNT {
-        return false;
-    }
-    if words_fit(words) {
-        return flags_fit(words);
-    }
-    false
+    numbers.len() == COUNT && words_fit(numbers) && flags_fit(numbers)
 }
 
-fn flag(words: &[u32], i: usize) -> bool
-    requires { ⌜ i < length (now words) ⌝ }
-    ensures { λ r. ⌜ r ≡ flagOf (now (words .entry)) i ⌝ }
+fn flag(numbers: &[u32], place: usize) -> bool
+    requires { ⌜ place < length (now numbers) ⌝ }
+    ensures { λ r. ⌜ r ≡ flagOf (now (numbers .entry)) place ⌝ }
 {
-    words[i] == 1
+    numbers[place] == 1
 }
 
-fn machine_of(words: &[u32]) -> Machine
-    requires { ⌜ Fitting (now words) ⌝ }
-    ensures { λ r. ⌜ r ≡ machineOf (now (words .entry)) ⌝ }
+fn machine_of(numbers: &[u32]) -> Machine
+    requires { ⌜ Fitting (now numbers) ⌝ }
+    ensures { λ r. ⌜ r ≡ machineOf (now (numbers .entry)) ⌝ }
 {
     let registers = Registers {
-        a: words[A] as u16,
-        b: words[B] as u16,
-        c: flag(words, C),
+        a: numbers[A] as u16,
+        b: numbers[B] as u16,
+        c: flag(numbers, C),
     };
     let switches = Switches {
-        one: flag(words, SWITCH_1),
-        two: flag(words, SWITCH_2),
-        three: flag(words, SWITCH_3),
-        four: flag(words, SWITCH_4),
+        one: flag(numbers, SWITCH_1),
+        two: flag(numbers, SWITCH_2),
+        three: flag(numbers, SWITCH_3),
+        four: flag(numbers, SWITCH_4),
     };
     Machine {
         registers,
-        p: words[P] as u16,
+        p: numbers[P] as u16,
         switches,
-        halted: flag(words, HALTED),
+        halted: flag(numbers, HALTED),
     }
 }
 
-fn number(b: bool) -> u32
-    ensures { λ r. ⌜ r ≡ bit b ⌝ }
+fn number(flag: bool) -> u32
+    ensures { λ r. ⌜ r ≡ bit flag ⌝ }
 {
-    word::bit(b) as u32
+    word::bit(flag) as u32
 }
 
-fn outcome(o: Outcome) -> u32
-    ensures { λ r. ⌜ r ≡ outcomeOf o ⌝ }
+fn outcome(ended: Outcome) -> u32
+    ensures { λ r. ⌜ r ≡ outcomeOf ended ⌝ }
 {
-    match o {
+    match ended {
         Outcome::Halted => 0,
         Outcome::Spent => 1,
         Outcome::Failed(_) => 2,
     }
 }
 
-fn failure(o: Outcome) -> u32
-    ensures { λ r. ⌜ r ≡ failureOf o ⌝ }
+fn failure(ended: Outcome) -> u32
+    ensures { λ r. ⌜ r ≡ failureOf ended ⌝ }
 {
-    match o {
+    match ended {
         Outcome::Halted => 0,
         Outcome::Spent => 0,
-        Outcome::Failed(n) => n as u32,
+        Outcome::Failed(cause) => cause as u32,
     }
 }
 
-fn put_machine(words: &mut [u32], m: Machine)
-    requires { ⌜ length (now words) ≡ 14 ⌝ }
-    ensures { λ _. ⌜ now (words .exit) ≡ withMachine (now (words .entry)) m ⌝ }
+fn put_machine(numbers: &mut [u32], machine: Machine)
+    requires { ⌜ length (now numbers) ≡ COUNT ⌝ }
+    ensures { λ _. ⌜ now (numbers .exit) ≡ withMachine (now (numbers .entry)) machine ⌝ }
 {
-    let r = m.registers;
-    let s = m.switches;
-    words[A] = r.a as u32;
-    words[B] = r.b as u32;
-    words[C] = number(r.c);
-    words[P] = m.p as u32;
-    words[SWITCH_1] = number(s.one);
-    words[SWITCH_2] = number(s.two);
-    words[SWITCH_3] = number(s.three);
-    words[SWITCH_4] = number(s.four);
-    words[HALTED] = number(m.halted);
+    let registers = machine.registers;
+    let switches = machine.switches;
+    numbers[A] = registers.a as u32;
+    numbers[B] = registers.b as u32;
+    numbers[C] = number(registers.c);
+    numbers[P] = machine.p as u32;
+    numbers[SWITCH_1] = number(switches.one);
+    numbers[SWITCH_2] = number(switches.two);
+    numbers[SWITCH_3] = number(switches.three);
+    numbers[SWITCH_4] = number(switches.four);
+    numbers[HALTED] = number(machine.halted);
 }
 
-fn put_report(words: &mut [u32], r: Report)
-    requires { ⌜ length (now words) ≡ 14 ⌝ }
-    ensures { λ _. ⌜ now (words .exit) ≡ withReport (now (words .entry)) r ⌝ }
+fn put_report(numbers: &mut [u32], report: Report)
+    requires { ⌜ length (now numbers) ≡ COUNT ⌝ }
+    ensures { λ _. ⌜ now (numbers .exit) ≡ withReport (now (numbers .entry)) report ⌝ }
 {
-    let o = r.outcome;
-    put_machine(&mut *words, r.machine);
-    words[CLOCK] = r.clock.common;
-    words[OUTCOME] = outcome(o);
-    words[FAILURE] = failure(o);
-    words[STEPS] = r.steps;
+    let ended = report.outcome;
+    put_machine(&mut *numbers, report.machine);
+    numbers[CLOCK] = report.clock.common;
+    numbers[OUTCOME] = outcome(ended);
+    numbers[FAILURE] = failure(ended);
+    numbers[STEPS] = report.steps;
 }
 
 // A run, and true; or false for numbers that are no machine's, and nothing changes.
 #[no_mangle]
-pub extern "C" fn machine_run(image: &mut [u16], words: &mut [u32]) -> bool
-    ensures { λ r. ⌜ Called (now (words .entry)) (now (image .entry)) r (now (words .exit)) (now (image .exit)) ⌝ }
+pub extern "C" fn machine_run(image: &mut [u16], numbers: &mut [u32]) -> bool
+    ensures { λ r. ⌜ Called (now (numbers .entry)) (now (image .entry)) r (now (numbers .exit)) (now (image .exit)) ⌝ }
 {
-    if fits(&*words) {
-        let m = machine_of(&*words);
+    if fits(&*numbers) {
+        let start = machine_of(&*numbers);
         let clock = Clock {
-            common: words[CLOCK],
+            common: numbers[CLOCK],
         };
         let request = Request {
-            budget: words[BUDGET],
+            budget: numbers[BUDGET],
         };
-        let r = machine::run(&mut *image, m, clock, request);
-        put_report(&mut *words, r);
+        let report = machine::run(&mut *image, start, clock, request);
+        put_report(&mut *numbers, report);
         return true;
     }
     false
@@ -206,7 +179,7 @@ pub extern "C" fn machine_run(image: &mut [u16], words: &mut [u32]) -> bool
 // Whether the deadline has come at this clock.
 #[no_mangle]
 pub extern "C" fn machine_due(clock: u32, deadline: u32) -> bool
-    ensures { λ r. ⌜ r ≡ dueOf (record { common = clock }) deadline ⌝ }
+    ensures { λ r. ⌜ r ≡ dueOf clock deadline ⌝ }
 {
     machine::due(Clock { common: clock }, deadline)
 }

@@ -8,14 +8,12 @@ mod output;
 fn case(text: &[u8], at: usize, number: u32) -> usize {
     let mut image = [0u16; 16384];
     let start = input::parse_start(text, at);
-    let next = input::parse_words(text, start.next, &mut image);
+    let next = case_input::parse_words(text, start.next, &mut image);
     let before = image;
     let report = machine::run(&mut image, start.machine, start.clock, start.request);
-    output::text(b"case ");
-    output::decimal(number);
-    output::text(b"\n");
+    case_output::case(number);
     output::report(report);
-    output::changes(&before, &image);
+    case_output::changes(&before, &image);
     next
 }
 

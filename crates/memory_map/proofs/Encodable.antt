@@ -3,15 +3,16 @@ use Prim.Native.Nat.{ℕ, zero, suc, _≤_, _<_}
 use mathlib.Core.Path.{_≡_, refl, sym, subst}
 use mathlib.Core.Bool.{true}
 use mathlib.Core.Logic.{_⊎_, inl, inr}
-use mathlib.Core.List.{List, [], _∷_}
+use mathlib.Core.List.{List, [], _∷_, List·Memᴰ}
 use native.Mathlib.Nat.{le-add-right}
 use native.Mathlib.Omega.{arith}
 use lib.Dec.{T}
 use lib.ListN.{length, getD}
-use Rattle.instruction.specs.Opcode.{ADD, ANA, CAS, ERA, IRS, JMP, JST, LDA, LDX, STA, SUB}
+use Rattle.instruction.specs.Opcode.{ADD, ANA, CAS, ERA, IRS, JST, LDA, LDX, STA, SUB, opcodes}
 use Rattle.instruction.specs.Slot.{CRA}
-use Rattle.instruction.specs.Table.{generics, tableOf}
-use Rattle.instruction.specs.Decode.{findWord, genericOf, isShift, shiftOf, memoryOf, decodeDef}
+use Rattle.instruction.specs.Table.{shiftKinds, generics, tableOf}
+use Rattle.instruction.specs.Decode.{findWord, genericOf, isIn, shiftOf, memoryOf, decodeDef}
+use Rattle.instruction.proofs.Members.{in-member}
 use Rattle.instruction.proofs.Rows.{isAt}
 use Rattle.tree.specs.Tree.{Id, Array, Operand, Subscript, Cell, Unary, Operator, Shift, Operation, Test, Bare, Expr, Term, Cond, Target, Stmt, Stmts}
 use Rattle.layout.specs.Words.{Sym, _⧺_, after, subscriptWords, reachWords, instructionWord, cellWords, unaryWords, unariesWords, operatorOpcode, shiftKind, operationWords, operationsWords, testSlot, bareSlot, Control, controls, controlWord, controlWords, exprEnd, termEnd, condEnd, targetCell, stmtEnd, stmtsEnd, exprWords, termWords, condWords, stmtWords, stmtsWords}
@@ -20,10 +21,10 @@ use Rattle.layout_laws.proofs.Spans.{Span, span-expr, span-cond, span-stmt, spa
 
 -- an opcode of the instruction table
 abbrev pub OpcodeOk : ℕ → Type 0
-OpcodeOk code = ((JMP ≤ code) × (code ≤ IRS)) ⊎ (code ≡ LDX)
+OpcodeOk code = List·Memᴰ code opcodes ⊎ (code ≡ LDX)
 
-plain-code : (code : ℕ) → JMP ≤ code → code ≤ IRS → OpcodeOk code
-plain-code code l h = inl (l, h)
+pub plain-code : (code : ℕ) → isIn code opcodes ≡ true → OpcodeOk code
+plain-code code e = inl (in-member code opcodes e)
 
 -- a slot's word decodes to it
 abbrev pub SlotOk : ℕ → Type 0
@@ -32,7 +33,7 @@ SlotOk slot = T (isAt slot (decodeDef (getD tableOf slot 0)))
 -- jumps go to addresses from lo to hi
 abbrev pub WordOk : Context → ℕ → ℕ → Sym → Type 0
 WordOk x lo hi (Sym.generic slot) = SlotOk slot
-WordOk x lo hi (Sym.shift kind n) = (isShift kind ≡ true) × (1 ≤ n) × (n ≤ 15)
+WordOk x lo hi (Sym.shift kind n) = List·Memᴰ kind shiftKinds × (1 ≤ n) × (n ≤ 15)
 WordOk x lo hi (Sym.memory code o) = OpcodeOk code × OperandOk x o
 WordOk x lo hi (Sym.through code n) = OpcodeOk code × (n < length (x .globals))
 WordOk x lo hi (Sym.jump z) = (lo ≤ z) × (z ≤ hi)
@@ -106,19 +107,22 @@ module _ (x : Context) (lo hi : ℕ) where
 
   operator : (o : Operator) → OpcodeOk (operatorOpcode o)
   unfolding operatorOpcode
-  operator Operator.add = plain-code ADD (omega arith) (omega arith)
-  operator Operator.subtract = plain-code SUB (omega arith) (omega arith)
-  operator Operator.and = plain-code ANA (omega arith) (omega arith)
-  operator Operator.nev = plain-code ERA (omega arith) (omega arith)
+  operator Operator.add = plain-code ADD refl
+  operator Operator.subtract = plain-code SUB refl
+  operator Operator.and = plain-code ANA refl
+  operator Operator.nev = plain-code ERA refl
 
-  shift-kind : (s : Shift) → isShift (shiftKind s) ≡ true
+  is-kind : (s : Shift) → isIn (shiftKind s) shiftKinds ≡ true
   unfolding shiftKind
-  shift-kind Shift.lgr = refl
-  shift-kind Shift.ars = refl
-  shift-kind Shift.arr = refl
-  shift-kind Shift.lgl = refl
-  shift-kind Shift.als = refl
-  shift-kind Shift.alr = refl
+  is-kind Shift.lgr = refl
+  is-kind Shift.ars = refl
+  is-kind Shift.arr = refl
+  is-kind Shift.lgl = refl
+  is-kind Shift.als = refl
+  is-kind Shift.alr = refl
+
+  shift-kind : (s : Shift) → List·Memᴰ (shiftKind s) shiftKinds
+  shift-kind s = in-member (shiftKind s) shiftKinds (is-kind s)
 
   operations : (os : List Operation) → OperationsOk x os → A (operationsWords os)
   unfolding operationsWords operationWords
@@ -163,10 +167,10 @@ module _ (x : Context) (lo hi : ℕ) where
   control-words end failing (k ∷ ks) a b c d = word {w = controlWord end failing k} (control end failing k a b c d) (control-words end failing ks a b c d)
 
   call : (p : ℕ) → ProcedureOk x p → WordOk x lo hi (Sym.through JST p)
-  call p h = (plain-code JST (omega arith) (omega arith), procedure-among p h)
+  call p h = (plain-code JST refl, procedure-among p h)
 
   lda : OpcodeOk LDA
-  lda = plain-code LDA (omega arith) (omega arith)
+  lda = plain-code LDA refl
 
   -- ---- Forms, with the expressions in them
 
@@ -185,7 +189,7 @@ module _ (x : Context) (lo hi : ℕ) where
     condition (Cond.relation r e c) a z h l m n o =
         let g = grows (span-expr e a) in
         both (inner e a (h .0) l (omega arith))
-        (both (cell CAS c (plain-code CAS (omega arith) (omega arith)) (h .1)) (control-words _ z (controls r) (omega arith) m n o))
+        (both (cell CAS c (plain-code CAS refl) (h .1)) (control-words _ z (controls r) (omega arith) m n o))
     condition (Cond.test t e) a z h l m n o = both (inner e a h l (omega arith)) (word {w = Sym.generic (testSlot t)} (test-slot t) (word {w = Sym.jump z} (n, o) none))
     condition (Cond.bare b) a z h l m n o = word {w = Sym.generic (bareSlot b)} (bare-slot b) (word {w = Sym.jump z} (n, o) none)
 
@@ -212,13 +216,13 @@ module _ (x : Context) (lo hi : ℕ) where
   target (Target.item a s) h = h
 
   sta : OpcodeOk STA
-  sta = plain-code STA (omega arith) (omega arith)
+  sta = plain-code STA refl
 
   counter : (code : ℕ) (i : Id) → OpcodeOk code → IdOk x i → WordOk x lo hi (Sym.memory code (Operand.named i))
   counter code i k h = (k, h)
 
   irs : OpcodeOk IRS
-  irs = plain-code IRS (omega arith) (omega arith)
+  irs = plain-code IRS refl
 
   ldx : OpcodeOk LDX
   ldx = inr refl

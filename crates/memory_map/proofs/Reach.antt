@@ -5,16 +5,16 @@ use mathlib.Core.Bool.{Bool, true, false, cond}
 use mathlib.Core.Logic.{inl, inr}
 use mathlib.Core.List.{List, [], _∷_, List·Memᴰ, List·Memᴰ·head, List·Memᴰ·tail}
 use native.Mathlib.Omega.{arith}
-use lib.Dec.{eqb, leb}
+use lib.Dec.{leb}
 use lib.ListN.{length, getD}
-use borrow.Author.Tests.{lt-leb, leb-false, ne-eqb}
-use Rattle.instruction.specs.Opcode.{JMP, LDX}
+use borrow.Author.Tests.{lt-leb, leb-false}
+use Rattle.instruction.specs.Opcode.{JMP}
 use Rattle.instruction.specs.Table.{tableOf}
 use Rattle.instruction.specs.Decode.{decodeDef}
 use Rattle.instruction.specs.Encode.{shiftWord, memory, loadX, shift}
 use Rattle.instruction.specs.declared.Instruction.the-variants.{Memory}
 use Rattle.instruction.proofs.Rows.{is-at}
-use Rattle.instruction.proofs.Encoding.{encoded}
+use Rattle.instruction.proofs.Encoding.{not-loadX, encoded}
 use Rattle.machine.specs.Address.{baseOf}
 use Rattle.tree.specs.Tree.{Operand}
 use Rattle.layout.specs.Words.{Sym, after}
@@ -23,15 +23,13 @@ use Rattle.layout.specs.Map.{Frame, addressOf, reference, wordOf, Role}
 use Rattle.memory_map.specs.Laid.{Map, Refers, Direct}
 use Rattle.parsing_laws.specs.WellFormed.{Context, IdOk, OperandOk}
 use Rattle.memory_map.proofs.LaidParts.{Stands, Covers}
-use Rattle.memory_map.proofs.Encodable.{OpcodeOk, WordOk, AllOk}
+use Rattle.memory_map.proofs.Encodable.{OpcodeOk, plain-code, WordOk, AllOk}
 use Rattle.memory_map.proofs.Bodies.{Fixed, Near}
 
 -- the word of a reference decodes to it
 decodes : (code k : ℕ) (indirect : Bool) → OpcodeOk code → decodeDef (reference code indirect k) ≡ Memory code indirect false (leb 512 k) (k % 512)
 unfolding reference
-decodes code k indirect (inl h) =
-    let e : eqb code LDX ≡ false = ne-eqb code LDX (λ d. omega arith) in
-    rw e (encoded (memory (h .0) (h .1) (omega arith)))
+decodes code k indirect (inl h) = rw (not-loadX h) (encoded (memory h (omega arith)))
 decodes code k indirect (inr e) = rw e (encoded (loadX (omega arith)))
 
 -- from the sector of a, its sector bit and address bits give k back
@@ -89,9 +87,9 @@ module _ (M : Map) (f : Frame) (x : Context) (s lo hi : ℕ) (low : 512 * s ≤ 
       near-global : (n : ℕ) → n < length (x .globals) → 0o200 + n < 512
       near-global n h = omega arith
   one (Sym.jump z) a vs h l below p q e =
-      refers M a JMP z false (inl (omega arith)) below (inr (in-sector s z lo hi low (h .0) (h .1) high ∙ sym (in-sector s a lo hi low p q high))) e
+      refers M a JMP z false (plain-code JMP refl) below (inr (in-sector s z lo hi low (h .0) (h .1) high ∙ sym (in-sector s a lo hi low p q high))) e
   one (Sym.return link) a vs h l below p q e =
-      refers M a JMP link true (inl (omega arith)) below (inr (in-sector s link lo hi low (h .0) (h .1) high ∙ sym (in-sector s a lo hi low p q high))) e
+      refers M a JMP link true (plain-code JMP refl) below (inr (in-sector s link lo hi low (h .0) (h .1) high ∙ sym (in-sector s a lo hi low p q high))) e
 
   pub covers : (ws : List Sym) (a : ℕ) → AllOk x lo hi ws → Literals (literalsOf ws) → Fixed M f a ws → lo ≤ a → after ws a ≤ suc hi → hi < 16383 → Covers M a ws
   unfolding literalsOf

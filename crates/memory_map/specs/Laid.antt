@@ -5,10 +5,10 @@ use mathlib.Core.Path.{_≡_}
 use mathlib.Core.Bool.{Bool, true, false}
 use mathlib.Core.List.{List, [], _∷_}
 use mathlib.Core.Option.{Option}
-use lib.Dec.{leb}
 use Rattle.instruction.specs.Opcode.{JMP, LDA, STA, JST, CAS, IRS, LDX}
 use Rattle.instruction.specs.Slot.{HLT, SKP, NOP, CRA, SPL, TCA}
-use Rattle.instruction.specs.Decode.{decodeDef, flagAt}
+use Rattle.instruction.specs.Decode.{decodeDef}
+use Rattle.instruction.specs.Field.{indirectOf, tagOf}
 use Rattle.instruction.specs.declared.Instruction.{Instruction}
 use Rattle.instruction.specs.declared.Instruction.the-variants.{Memory, Shift, Generic}
 use Rattle.machine.specs.Address.{baseOf}
@@ -51,8 +51,8 @@ pub record ArrayWord (M : Map) (a : Array) (k : ℕ) : Type 0 where
   pub below : k < memoryWords
   pub word : ℕ
   pub here : M k ≡ Role.fixed word
-  pub straight : leb 0o100000 word ≡ false
-  pub tagged : flagAt word 0o40000 ≡ true
+  pub straight : indirectOf word ≡ false
+  pub tagged : tagOf word ≡ true
   pub initial : ℕ → ℕ
   pub elements : (v : ℕ) → isInside a v ≡ true → M ((word % memoryWords + v) % memoryWords) ≡ Role.cell (CellId.element (a .number) v) (initial v)
 

@@ -1,5 +1,5 @@
 -- Every row of the table holds, most by computation.
-use Prim.Native.Nat.{_+_, _-_, _%_, _^_, _<_}
+use Prim.Native.Nat.{ℕ, _+_, _-_, _%_, _^_, _<_}
 use mathlib.Core.Path.{_≡_, refl}
 use mathlib.Core.Bool.{false}
 use native.Mathlib.Omega.{arith}
@@ -11,27 +11,25 @@ use Rattle.instruction.specs.Decode.{findWord, genericOf, shiftOf, memoryOf, de
 use Rattle.instruction.specs.Encode.{shiftWord}
 use Rattle.effect.specs.Effects.{operateOf, unaryOf}
 use Rattle.effect.specs.Skips.{skipsOf}
-use Rattle.machine.specs.declared.Clock.{Clock}
 use Rattle.machine.specs.declared.Request.{Request}
 use Rattle.machine.specs.declared.Outcome.the-variants.{Spent}
 use Rattle.machine.specs.Address.{followOf}
 use Rattle.machine.specs.State.{State}
 use Rattle.machine.specs.Step.{memoryDef, genericDef, stepDef}
 use Rattle.machine.specs.Clock.{dueOf}
-use Rattle.machine.specs.Run.{ran, runFrom, runDef}
-use Rattle.machine.proofs.Turns.{run-spent}
+use Rattle.machine.specs.Run.{idle, runFrom, runDef}
+use Rattle.machine.proofs.RunSteps.{run-spent}
 use Rattle.compilation.specs.Computed.{computed}
 use Rattle.proved_cases.specs.Samples.{absolute, greater, sums}
 use Rattle.proved_cases.specs.Table.{table, TableHolds}
 
-one-ahead : (k : Clock) → dueOf k ((k .common + 1) % 2 ^ 32) ≡ false
-one-ahead k =
-    let c = k .common in
-    let e : (c + 2 ^ 32 - (c + 1) % 2 ^ 32) % 2 ^ 32 ≡ 2 ^ 32 - 1 = omega arith in
-    le-ltb ((c + 2 ^ 32 - (c + 1) % 2 ^ 32) % 2 ^ 32) (2 ^ 31) (omega arith)
+one-ahead : (n : ℕ) → dueOf n ((n + 1) % 2 ^ 32) ≡ false
+one-ahead n =
+    let e : (n + 2 ^ 32 - (n + 1) % 2 ^ 32) % 2 ^ 32 ≡ 2 ^ 32 - 1 = omega arith in
+    le-ltb ((n + 2 ^ 32 - (n + 1) % 2 ^ 32) % 2 ^ 32) (2 ^ 31) (omega arith)
 
 nothing-spent : (q : Request) (s : State) → q .budget ≡ 0 → length (s .image) ≡ 16384 → s .machine .p < 16384 → s .machine .halted ≡ false
-    → runDef q s ≡ ran 0 Spent s
+    → runDef q s ≡ idle Spent s
 unfolding runDef
 nothing-spent q s b l p h =
     rw (eq-eqb _ _ l, le-ltb 16383 (s .machine .p) (omega arith), le-ltb 1000000 (q .budget) (omega arith)) (run-spent (q .budget) s h b)

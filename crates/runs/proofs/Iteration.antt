@@ -4,7 +4,7 @@ use mathlib.Core.Path.{_≡_, refl, ap, sym, subst, _∙_}
 use mathlib.Core.Logic.{_⊎_, inl, inr}
 use mathlib.Core.Bool.{Bool, true, false, cond}
 use mathlib.Core.List.{List}
-use native.Mathlib.Nat.{zero-add, suc-add, add-zero, add-assoc}
+use native.Mathlib.Nat.{zero-add, suc-add}
 use native.Mathlib.Numerals.{one-add}
 use native.Mathlib.Omega.{arith}
 use lib.ListN.{getD}
@@ -20,8 +20,8 @@ use Rattle.machine.specs.Failure.{unknownWord, longChain}
 use Rattle.machine.specs.Address.{addressOf}
 use Rattle.machine.specs.State.{State}
 use Rattle.machine.specs.Step.{Step, made, failed, memoryStep, perform, stepDef}
-use Rattle.machine.specs.Run.{Ran, ran, more, goOn, runFrom}
-use Rattle.machine.proofs.Turns.{run-halted, run-failed}
+use Rattle.machine.specs.Run.{Work, noWork, workOf, addWork, Ran, ran, idle, more, goOn, runFrom}
+use Rattle.machine.proofs.RunSteps.{add-work-none, more-more, more-none, run-by, run-halted, run-failed}
 use Rattle.runs.specs.Steps.{Steps, none, one}
 use Rattle.runs.specs.Outcomes.{Says, Ended}
 
@@ -51,28 +51,37 @@ pub steps-running : {n : ℕ} {s u : State} → Steps n s u → u .machine .halt
 steps-running none h = h
 steps-running (one l e r) h = l
 
+less : (n : ℕ) → suc n - 1 ≡ n
+less n = omega arith
+
 -- a run from a state from which n steps lead on goes on from the last
-pub run-steps : (m : ℕ) {n : ℕ} {s u : State} → Steps n s u → runFrom (n + m) s ≡ more n (runFrom m u)
+pub run-steps : (m : ℕ) {n : ℕ} {s u : State} → Steps n s u → runFrom (n + m) s ≡ more (runFrom n s .work) (runFrom m u)
 unfolding runFrom
-run-steps m {s = s} none = rw (zero-add m, zero-add (runFrom m s .steps))
+run-steps m {s = s} none = ap (λ (j : ℕ). runFrom j s) (zero-add m) ∙ sym (more-none (runFrom m s))
 run-steps m {s = s} {u = u} (one {n = n} {t = t} h e r) =
     ap (λ (j : ℕ). runFrom j s) (suc-add n m)
-    ∙ ap (λ (b : Bool). cond b (ran 0 Halted s) (goOn s (λ (v : State). runFrom (n + m) v) (stepDef s))) h
-    ∙ ap (goOn s (λ (v : State). runFrom (n + m) v)) e
-    ∙ ap (more 1) (run-steps m r)
-    ∙ ap (λ (j : ℕ). ran j (runFrom m u .outcome) (runFrom m u .state)) (sym (add-assoc 1 n _) ∙ ap (λ (j : ℕ). j + runFrom m u .steps) (one-add n))
+    ∙ run-by (suc (n + m)) s h (omega arith) e
+    ∙ ap (λ (j : ℕ). more (workOf s) (runFrom j t)) (less (n + m))
+    ∙ ap (more (workOf s)) (run-steps m r)
+    ∙ more-more (workOf s) (runFrom n t .work) (runFrom m u)
+    ∙ ap (λ (w : Work). more w (runFrom m u)) (sym (ap (λ (x : Ran). x .work) (run-by (suc n) s h (omega arith) e ∙ ap (λ (j : ℕ). more (workOf s) (runFrom j t)) (less n))))
 
 -- a run of as many steps as can be made, and one that comes to a halt
-pub run-exact : {n : ℕ} {s u : State} → Steps n s u → (runFrom n s .state ≡ u) × (runFrom n s .steps ≡ n)
+pub run-exact : {n : ℕ} {s u : State} → Steps n s u → (runFrom n s .state ≡ u) × (runFrom n s .work .steps ≡ n)
 unfolding runFrom
-run-exact {n} {s} r =
-    let e = ap (λ (j : ℕ). runFrom j s) (sym (add-zero n)) ∙ run-steps 0 r in
-    (ap (λ (x : Ran). x .state) e, ap (λ (x : Ran). x .steps) e ∙ add-zero n)
+run-exact none = (refl, refl)
+run-exact {s = s} (one {n = n} {t = t} h e r) =
+    let x = run-by (suc n) s h (omega arith) e ∙ ap (λ (j : ℕ). more (workOf s) (runFrom j t)) (less n) in
+    let i = run-exact r in
+    (ap (λ (z : Ran). z .state) x ∙ i .0, ap (λ (z : Ran). z .work .steps) x ∙ one-add (runFrom n t .work .steps) ∙ ap suc (i .1))
 
-pub run-halts : (b : ℕ) {n : ℕ} {s u : State} → Steps n s u → u .machine .halted ≡ true → n ≤ b → runFrom b s ≡ ran n Halted u
+pub run-halts : (b : ℕ) {n : ℕ} {s u : State} → Steps n s u → u .machine .halted ≡ true → n ≤ b → runFrom b s ≡ ran (runFrom n s .work) Halted u
 run-halts b {n} {s} {u} r h l =
     let q : b ≡ n + (b - n) = omega arith in
-    ap (λ (j : ℕ). runFrom j s) q ∙ run-steps (b - n) r ∙ ap (more n) (run-halted (b - n) u h) ∙ ap (λ (j : ℕ). ran j Halted u) (add-zero n)
+    ap (λ (j : ℕ). runFrom j s) q
+    ∙ run-steps (b - n) r
+    ∙ ap (more (runFrom n s .work)) (run-halted (b - n) u h)
+    ∙ ap (λ (w : Work). ran w Halted u) (add-work-none (runFrom n s .work))
 
 -- a step fails with 20 or 21 only
 OneOf : Step → Type 0
@@ -97,25 +106,25 @@ unfolding OneOf stepDef
 step-fails s f e = subst OneOf e (perform-fails (s .machine) (s .image) (decodeDef (getD (s .image) (s .machine .p) 0)))
 
 -- how every iteration ends
-says-more : (n : ℕ) (r : Ran) (o : Outcome) → Says n r o → Says (suc n) (more 1 r) o
-says-more n r Halted h = h
-says-more n r Spent h = (omega (arith, h .0), h .1)
-says-more n r (Failed f) h = (omega (arith, h .0), h .1, h .2, h .3)
+says-more : (n : ℕ) (s : State) (r : Ran) (o : Outcome) → Says n r o → Says (suc n) (more (workOf s) r) o
+says-more n s r Halted h = h
+says-more n s r Spent h = (omega (arith, h .0), h .1)
+says-more n s r (Failed f) h = (omega (arith, h .0), h .1, h .2, h .3)
 
-ended-now : (s : State) (b : Bool) → s .machine .halted ≡ b → Ended 0 s (ran 0 (cond b Halted Spent) s)
+ended-now : (s : State) (b : Bool) → s .machine .halted ≡ b → Ended 0 s (idle (cond b Halted Spent) s)
 ended-now s true h = record { made = none; within = omega arith; says = h }
 ended-now s false h = record { made = none; within = omega arith; says = (refl, h) }
 
 ended-by : (n : ℕ) (s : State) (b : Bool) (x : Step) → s .machine .halted ≡ b → stepDef s ≡ x
-    → ((t : State) → Ended n t (runFrom n t)) → Ended (suc n) s (cond b (ran 0 Halted s) (goOn s (λ (v : State). runFrom n v) x))
+    → ((t : State) → Ended n t (runFrom n t)) → Ended (suc n) s (cond b (idle Halted s) (goOn s (λ (v : State). runFrom n v) x))
 ended-by n s true x h e again = record { made = none; within = omega arith; says = h }
 ended-by n s false (made t) h e again =
     let a = again t in
     let r = runFrom n t in
     record {
-      made = subst (λ (j : ℕ). Steps j s (r .state)) (sym (one-add (r .steps))) (one h e (a .made));
+      made = subst (λ (j : ℕ). Steps j s (r .state)) (sym (one-add (r .work .steps))) (one h e (a .made));
       within = omega (arith, a .within);
-      says = says-more n r (r .outcome) (a .says);
+      says = says-more n s r (r .outcome) (a .says);
     }
 ended-by n s false (failed f) h e again =
     record { made = none; within = omega arith; says = (omega arith, h, e, step-fails s f e) }
@@ -133,50 +142,53 @@ spent-steps n s o =
     subst (λ (j : ℕ). Steps j s (runFrom n s .state)) (h .0) (e .made)
 
 -- a spent run of n, then one of m
-pub run-plus : (n m : ℕ) (s : State) → runFrom n s .outcome ≡ Spent → runFrom (n + m) s ≡ more n (runFrom m (runFrom n s .state))
+pub run-plus : (n m : ℕ) (s : State) → runFrom n s .outcome ≡ Spent → runFrom (n + m) s ≡ more (runFrom n s .work) (runFrom m (runFrom n s .state))
 run-plus n m s o = run-steps m (spent-steps n s o)
 
 -- a run that can go no further: a halted state, or one whose step fails
 record Stuck (u : State) : Type 0 where
   state-stays : (m : ℕ) → runFrom m u .state ≡ u
-  steps-none : (m : ℕ) → runFrom m u .steps ≡ 0
+  work-none : (m : ℕ) → runFrom m u .work ≡ noWork
 
 stuck-halted : (u : State) → u .machine .halted ≡ true → Stuck u
 stuck-halted u h = record {
   state-stays = λ m. ap (λ (r : Ran). r .state) (run-halted m u h);
-  steps-none = λ m. ap (λ (r : Ran). r .steps) (run-halted m u h);
+  work-none = λ m. ap (λ (r : Ran). r .work) (run-halted m u h);
 }
 
 stuck-failing : (u : State) (f : ℕ) → u .machine .halted ≡ false → stepDef u ≡ failed f → Stuck u
 unfolding runFrom
 stuck-failing u f h e = record {
   state-stays = elim [ zero ↦ refl | suc m ↦ ap (λ (r : Ran). r .state) (run-failed (suc m) u h (omega arith) e) ];
-  steps-none = elim [ zero ↦ refl | suc m ↦ ap (λ (r : Ran). r .steps) (run-failed (suc m) u h (omega arith) e) ];
+  work-none = elim [ zero ↦ refl | suc m ↦ ap (λ (r : Ran). r .work) (run-failed (suc m) u h (omega arith) e) ];
 }
 
--- a run of n, then one of m, however the first ended, come to the run of n + m in state and steps
+-- a run of n, then one of m, however the first ended, come to the run of n + m in state and work
 pub record Added (n m : ℕ) (s : State) : Type 0 where
   pub state : runFrom (n + m) s .state ≡ runFrom m (runFrom n s .state) .state
-  pub steps : runFrom (n + m) s .steps ≡ runFrom n s .steps + runFrom m (runFrom n s .state) .steps
+  pub work : runFrom (n + m) s .work ≡ addWork (runFrom n s .work) (runFrom m (runFrom n s .state) .work)
 
 added-stuck : (n m : ℕ) (s : State) → Ended n s (runFrom n s) → Stuck (runFrom n s .state) → Added n m s
 added-stuck n m s e k =
-    let j = runFrom n s .steps in
+    let j = runFrom n s .work .steps in
     let u = runFrom n s .state in
-    let w = e .within in
-    let d = n - j + m in
-    let q : n + m ≡ j + d = omega arith in
-    let r = ap (λ (i : ℕ). runFrom i s) q ∙ run-steps d (e .made) in
+    let l = e .within in
+    let q : n + m ≡ j + (n - j + m) = omega arith in
+    let p : n ≡ j + (n - j) = omega arith in
+    let go : (d : ℕ) → runFrom (j + d) s ≡ more (runFrom j s .work) (runFrom d u) = λ d. run-steps d (e .made) in
+    let stays : (d : ℕ) → runFrom (j + d) s .work ≡ runFrom j s .work = λ d.
+    ap (λ (x : Ran). x .work) (go d) ∙ ap (addWork (runFrom j s .work)) (k .work-none d) ∙ add-work-none (runFrom j s .work) in
     record {
-      state = ap (λ (x : Ran). x .state) r ∙ k .state-stays d ∙ sym (k .state-stays m);
-      steps = ap (λ (x : Ran). x .steps) r ∙ ap (λ (i : ℕ). j + i) (k .steps-none d ∙ sym (k .steps-none m));
+      state = ap (λ (i : ℕ). runFrom i s .state) q ∙ ap (λ (x : Ran). x .state) (go (n - j + m)) ∙ k .state-stays (n - j + m) ∙ sym (k .state-stays m);
+      work =
+          ap (λ (i : ℕ). runFrom i s .work) q ∙ stays (n - j + m) ∙ sym (stays (n - j)) ∙ ap (λ (i : ℕ). runFrom i s .work) (sym p)
+          ∙ sym (ap (addWork (runFrom n s .work)) (k .work-none m) ∙ add-work-none (runFrom n s .work));
     }
 
 added-by : (n m : ℕ) (s : State) (o : Outcome) → runFrom n s .outcome ≡ o → Ended n s (runFrom n s) → Says n (runFrom n s) o → Added n m s
 added-by n m s Halted q e h = added-stuck n m s e (stuck-halted (runFrom n s .state) h)
 added-by n m s Spent q e h =
-    let r = run-plus n m s q in
-    record { state = ap (λ (x : Ran). x .state) r; steps = ap (λ (x : Ran). x .steps) r ∙ ap (λ (j : ℕ). j + runFrom m (runFrom n s .state) .steps) (sym (h .0)) }
+    let r = run-plus n m s q in record { state = ap (λ (x : Ran). x .state) r; work = ap (λ (x : Ran). x .work) r }
 added-by n m s (Failed f) q e h = added-stuck n m s e (stuck-failing (runFrom n s .state) f (h .1) (h .2))
 
 pub run-add : (n m : ℕ) (s : State) → Added n m s

@@ -14,12 +14,13 @@ use Rattle.machine.specs.Failure.{refused}
 use Rattle.machine.specs.State.{State}
 use Rattle.machine.specs.Step.{made, stepDef}
 use Rattle.machine.specs.Clock.{spend, spendMany}
-use Rattle.machine.specs.Run.{Ran, ran, more, runFrom, runDef}
+use Rattle.machine.specs.Run.{Work, noWork, addWork, Ran, idle, more, runFrom, runDef}
 use Rattle.machine.proofs.Ticks.{spend-many}
+use Rattle.machine.proofs.RunSteps.{add-work-assoc}
 use Rattle.runs.specs.Steps.{Steps, none, one}
-use Rattle.runs.specs.Runs.{Total, runsDef, clockAfter}
+use Rattle.runs.specs.Runs.{Turn, Total, runsDef, clockAfter}
 use Rattle.runs.specs.RunLaws.{withBudget, Resumed, AsOne}
-use Rattle.runs.proofs.Iteration.{steps-join, steps-split, steps-running, run-exact, run-halts, spent-steps, run-plus, run-add}
+use Rattle.runs.proofs.Iteration.{steps-join, steps-split, steps-running, run-exact, run-halts, run-plus, run-add}
 use Rattle.runs.proofs.Refusals.{Decision, refuses, permits, decided, not-refused, allowed, run-good}
 use Rattle.runs.proofs.Keeping.{run-keeps}
 
@@ -29,42 +30,43 @@ allowance q s = cond (refused (runDef q s .outcome)) 0 (q .budget)
 
 record Iterates (q : Request) (s : State) : Type 0 where
   state : runDef q s .state ≡ runFrom (allowance q s) s .state
-  steps : runDef q s .steps ≡ runFrom (allowance q s) s .steps
+  work : runDef q s .work ≡ runFrom (allowance q s) s .work
 
 iterates-as : (q : Request) (s : State) (n : ℕ) (r : Ran) → runDef q s ≡ r → allowance q s ≡ n → (r .state ≡ runFrom n s .state)
-    → (r .steps ≡ runFrom n s .steps) → Iterates q s
+    → (r .work ≡ runFrom n s .work) → Iterates q s
 iterates-as q s n r e a x y = record {
   state = ap (λ (z : Ran). z .state) e ∙ x ∙ ap (λ (j : ℕ). runFrom j s .state) (sym a);
-  steps = ap (λ (z : Ran). z .steps) e ∙ y ∙ ap (λ (j : ℕ). runFrom j s .steps) (sym a);
+  work = ap (λ (z : Ran). z .work) e ∙ y ∙ ap (λ (j : ℕ). runFrom j s .work) (sym a);
 }
 
 iterates-by : (q : Request) (s : State) → Decision q s → Iterates q s
 unfolding allowance runFrom
 iterates-by q s (refuses n c r e) =
-    iterates-as q s 0 (ran 0 (Failed n) s) e (yes 0 (q .budget) (ap (λ (z : Ran). refused (z .outcome)) e ∙ r)) refl refl
+    iterates-as q s 0 (idle (Failed n) s) e (yes 0 (q .budget) (ap (λ (z : Ran). refused (z .outcome)) e ∙ r)) refl refl
 iterates-by q s (permits g b e) =
     iterates-as q s (q .budget) (runFrom (q .budget) s) e
     (no 0 (q .budget) (ap (λ (z : Ran). refused (z .outcome)) e ∙ not-refused (q .budget) s)) refl refl
 
-pub list : (qs : List Request) (s : State) → AsOne qs s
+pub list : (vs : List Turn) (s : State) → AsOne vs s
 unfolding runsDef clockAfter allowance runFrom
-list [] s = record { state = refl; steps = refl; clock = λ k h. omega arith }
-list (q ∷ qs) s =
+list [] s = record { state = refl; work = refl; clock = λ k h. omega arith }
+list (v ∷ vs) s =
+    let q = v .request in
     let i = iterates-by q s (decided q s) in
     let r = runDef q s in
     let n = allowance q s in
-    let m = runsDef qs (r .state) .granted in
-    let l = list qs (r .state) in
+    let m = runsDef vs (r .state) .granted in
+    let l = list vs (r .state) in
     let a = run-add n m s in
     record {
       state = l .state ∙ ap (λ (u : State). runFrom m u .state) (i .state) ∙ sym (a .state);
-      steps =
-          ap (λ (j : ℕ). r .steps + j) (l .steps ∙ ap (λ (u : State). runFrom m u .steps) (i .state))
-          ∙ ap (λ (j : ℕ). j + runFrom m (runFrom n s .state) .steps) (i .steps)
-          ∙ sym (a .steps);
+      work =
+          ap (addWork (r .work)) (l .work ∙ ap (λ (u : State). runFrom m u .work) (i .state))
+          ∙ ap (λ (w : Work). addWork w (runFrom m (runFrom n s .state) .work)) (i .work)
+          ∙ sym (a .work);
       clock = λ k h.
-          let k₁ = spendMany q (r .steps) k in
-          let c : k₁ .common ≡ (k .common + r .steps) % 2 ^ 32 = ap (λ (x : Clock). x .common) (spend-many q (r .steps) k h) in
+          let k₁ = spendMany q (r .work .steps) k in
+          let c : k₁ .common ≡ (k .common + r .work .steps) % 2 ^ 32 = ap (λ (x : Clock). x .common) (spend-many q (r .work .steps) k h) in
           let d = l .clock k₁ (omega arith) in
           omega arith;
     }
@@ -75,76 +77,78 @@ unfolding spendMany
 spend-add q n zero k = ap (λ (j : ℕ). spendMany q j k) (add-zero n)
 spend-add q n (suc m) k = ap (λ (j : ℕ). spendMany q j k) (add-suc n m) ∙ ap (spend q) (spend-add q n m k)
 
-spend-alike : (q : Request) (a b n : ℕ) (k : Clock) → spendMany (withBudget q a) n k ≡ spendMany (withBudget q b) n k
+spend-alike : (v : Turn) (a b n : ℕ) (k : Clock) → spendMany (withBudget v a .request) n k ≡ spendMany (withBudget v b .request) n k
 unfolding spendMany
-spend-alike q a b zero k = refl
-spend-alike q a b (suc n) k = ap (spend (withBudget q a)) (spend-alike q a b n k)
+spend-alike v a b zero k = refl
+spend-alike v a b (suc n) k = ap (spend (withBudget v a .request)) (spend-alike v a b n k)
 
-total : ℕ → ℕ → State → Total
-total g n s = record { granted = g; steps = n; state = s }
+total : ℕ → Work → State → Total
+total g w s = record { granted = g; work = w; state = s }
 
-resumed-as : (q : Request) (n m : ℕ) (s : State)
-    → let first = runDef (withBudget q n) s in
-    let second = runDef (withBudget q m) (first .state) in
-    let whole = runDef (withBudget q (n + m)) s in
-    refused (first .outcome) ≡ false → refused (second .outcome) ≡ false → first .steps ≡ n → whole ≡ more n second → Resumed q n m s
+resumed-as : (v : Turn) (n m : ℕ) (s : State)
+    → let first = runDef (withBudget v n .request) s in
+    let second = runDef (withBudget v m .request) (first .state) in
+    let whole = runDef (withBudget v (n + m) .request) s in
+    refused (first .outcome) ≡ false → refused (second .outcome) ≡ false → whole ≡ more (first .work) second → Resumed v n m s
 unfolding runsDef clockAfter total
-resumed-as q n m s g h f e =
-    let first = runDef (withBudget q n) s in
-    let second = runDef (withBudget q m) (first .state) in
-    let whole = runDef (withBudget q (n + m)) s in
-    let x : whole .steps ≡ n + second .steps = ap (λ (r : Ran). r .steps) e in
+resumed-as v n m s g h e =
+    let first = runDef (withBudget v n .request) s in
+    let second = runDef (withBudget v m .request) (first .state) in
+    let whole = runDef (withBudget v (n + m) .request) s in
+    let w : addWork (first .work) (second .work) ≡ whole .work = ap (λ (r : Ran). r .work) (sym e) in
     let o : refused (whole .outcome) ≡ false = ap (λ (r : Ran). refused (r .outcome)) e ∙ h in
     let budgets : cond (refused (first .outcome)) 0 n + (cond (refused (second .outcome)) 0 m + 0) ≡ cond (refused (whole .outcome)) 0 (n + m) + 0 =
     rw (g, h, o) (omega arith) in
-    let steps : first .steps + (second .steps + 0) ≡ whole .steps + 0 = omega arith in
-    let sum : first .steps + second .steps ≡ whole .steps = omega arith in
+    let works : addWork (first .work) (addWork (second .work) noWork) ≡ addWork (whole .work) noWork =
+    sym (add-work-assoc (first .work) (second .work) noWork) ∙ ap (λ (x : Work). addWork x noWork) w in
     record {
-      total = λ i. total (budgets i) (steps i) (ap (λ (r : Ran). r .state) (sym e) i);
+      total = λ i. total (budgets i) (works i) (ap (λ (r : Ran). r .state) (sym e) i);
       clock = λ k.
-          spend-alike q m (n + m) (second .steps) _
-          ∙ ap (spendMany (withBudget q (n + m)) (second .steps)) (spend-alike q n (n + m) (first .steps) k)
-          ∙ sym (spend-add (withBudget q (n + m)) (first .steps) (second .steps) k)
-          ∙ ap (λ (j : ℕ). spendMany (withBudget q (n + m)) j k) sum;
+          spend-alike v m (n + m) (second .work .steps) _
+          ∙ ap (spendMany (withBudget v (n + m) .request) (second .work .steps)) (spend-alike v n (n + m) (first .work .steps) k)
+          ∙ sym (spend-add (withBudget v (n + m) .request) (first .work .steps) (second .work .steps) k)
+          ∙ ap (λ (x : Work). spendMany (withBudget v (n + m) .request) (x .steps) k) w;
       outcome = ap (λ (r : Ran). r .outcome) (sym e);
     }
 
-pub resumed : (q : Request) (n m : ℕ) (s : State) → n + m ≤ 1000000 → runDef (withBudget q n) s .outcome ≡ Spent → Resumed q n m s
-resumed q n m s h o =
-    let ok : refused (runDef (withBudget q n) s .outcome) ≡ false = ap refused o in
-    let a = allowed (withBudget q n) s ok in
-    let u = runDef (withBudget q n) s .state in
+pub resumed : (v : Turn) (n m : ℕ) (s : State) → n + m ≤ 1000000 → runDef (withBudget v n .request) s .outcome ≡ Spent → Resumed v n m s
+resumed v n m s h o =
+    let first = withBudget v n .request in
+    let second = withBudget v m .request in
+    let ok : refused (runDef first s .outcome) ≡ false = ap refused o in
+    let a = allowed first s ok in
+    let u = runDef first s .state in
     let e = a .2 in
-    let again = run-good (withBudget q m) u (run-keeps (withBudget q n) s ok) (omega arith) in
+    let again = run-good second u (run-keeps first s ok) (omega arith) in
     let spent : runFrom n s .outcome ≡ Spent = sym (ap (λ (r : Ran). r .outcome) e) ∙ o in
-    resumed-as q n m s ok
+    resumed-as v n m s ok
     (ap (λ (r : Ran). refused (r .outcome)) again ∙ not-refused m u)
-    (ap (λ (r : Ran). r .steps) e ∙ run-exact (spent-steps n s spent) .1)
-    (run-good (withBudget q (n + m)) s (a .0) h
+    (run-good (withBudget v (n + m) .request) s (a .0) h
     ∙ run-plus n m s spent
-    ∙ ap (λ (r : Ran). more n (runFrom m (r .state))) (sym e)
-    ∙ ap (more n) (sym again))
+    ∙ ap (λ (r : Ran). more (r .work) (runFrom m (r .state))) (sym e)
+    ∙ ap (more (runDef first s .work)) (sym again))
 
 -- lists, where the steps are known
-pub reached : (qs : List Request) {n : ℕ} {s u : State} → Steps n s u → runsDef qs s .granted ≡ n
-    → (runsDef qs s .state ≡ u) × (runsDef qs s .steps ≡ n)
-reached qs {n} {s} {u} r b =
-    let l = list qs s in
+pub reached : (vs : List Turn) {n : ℕ} {s u : State} → Steps n s u → runsDef vs s .granted ≡ n
+    → (runsDef vs s .state ≡ u) × (runsDef vs s .work .steps ≡ n)
+reached vs {n} {s} {u} r b =
+    let l = list vs s in
     let e = run-exact r in
-    (l .state ∙ ap (λ (j : ℕ). runFrom j s .state) b ∙ e .0, l .steps ∙ ap (λ (j : ℕ). runFrom j s .steps) b ∙ e .1)
+    (l .state ∙ ap (λ (j : ℕ). runFrom j s .state) b ∙ e .0, ap (λ (w : Work). w .steps) (l .work) ∙ ap (λ (j : ℕ). runFrom j s .work .steps) b ∙ e .1)
 
-pub halts : (qs : List Request) {n : ℕ} {s u t : State} → Steps n s u → u .machine .halted ≡ false → stepDef u ≡ made t
-    → t .machine .halted ≡ true → n < runsDef qs s .granted → (runsDef qs s .state ≡ t) × (runsDef qs s .steps ≡ suc n)
-halts qs {n} {s} {u} {t} r h e d b =
-    let l = list qs s in
-    let x = run-halts (runsDef qs s .granted) (steps-join r (one h e none)) d (omega arith) in
-    (l .state ∙ ap (λ (z : Ran). z .state) x, l .steps ∙ ap (λ (z : Ran). z .steps) x ∙ add-one n)
+pub halts : (vs : List Turn) {n : ℕ} {s u t : State} → Steps n s u → u .machine .halted ≡ false → stepDef u ≡ made t
+    → t .machine .halted ≡ true → n < runsDef vs s .granted → (runsDef vs s .state ≡ t) × (runsDef vs s .work .steps ≡ suc n)
+halts vs {n} {s} {u} {t} r h e d b =
+    let l = list vs s in
+    let last = steps-join r (one h e none) in
+    let x = run-halts (runsDef vs s .granted) last d (omega arith) in
+    (l .state ∙ ap (λ (z : Ran). z .state) x, ap (λ (w : Work). w .steps) (l .work) ∙ ap (λ (z : Ran). z .work .steps) x ∙ run-exact last .1 ∙ add-one n)
 
-pub all-made : (qs : List Request) {n : ℕ} {s u : State} → Steps n s u → u .machine .halted ≡ false → runsDef qs s .granted ≤ n
-    → (runsDef qs s .state .machine .halted ≡ false) × (runsDef qs s .steps ≡ runsDef qs s .granted)
-all-made qs {n} {s} {u} r h b =
-    let m = runsDef qs s .granted in
+pub all-made : (vs : List Turn) {n : ℕ} {s u : State} → Steps n s u → u .machine .halted ≡ false → runsDef vs s .granted ≤ n
+    → (runsDef vs s .state .machine .halted ≡ false) × (runsDef vs s .work .steps ≡ runsDef vs s .granted)
+all-made vs {n} {s} {u} r h b =
+    let m = runsDef vs s .granted in
     let q : n ≡ m + (n - m) = omega arith in
     let x = steps-split m (n - m) (subst (λ (j : ℕ). Steps j s u) q r) in
-    let y = reached qs (x .1) refl in
+    let y = reached vs (x .1) refl in
     (ap (λ (v : State). v .machine .halted) (y .0) ∙ steps-running (x .2) h, y .1)

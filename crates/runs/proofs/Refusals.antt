@@ -12,18 +12,18 @@ use Rattle.machine.specs.declared.Outcome.{Outcome}
 use Rattle.machine.specs.declared.Outcome.the-variants.{Halted, Spent, Failed}
 use Rattle.machine.specs.Failure.{wrongImage, unknownWord, longChain, overBudget, wrongP, refused}
 use Rattle.machine.specs.State.{State, Good}
-use Rattle.machine.specs.Run.{Ran, ran, runFrom, runDef}
+use Rattle.machine.specs.Run.{Ran, idle, runFrom, runDef}
 use Rattle.runs.specs.Outcomes.{Says, Refusal, of-image, of-p, of-budget, RefusedExactly}
 use Rattle.runs.proofs.Iteration.{run-ends}
 
 pub data Decision (q : Request) (s : State) : Type 0 where
-  refuses : (n : ℕ) → Refusal q s n → refused (Failed n) ≡ true → runDef q s ≡ ran 0 (Failed n) s → Decision q s
+  refuses : (n : ℕ) → Refusal q s n → refused (Failed n) ≡ true → runDef q s ≡ idle (Failed n) s → Decision q s
   permits : Good s → q .budget ≤ 1000000 → runDef q s ≡ runFrom (q .budget) s → Decision q s
 
 -- the run by its three tests
 by-tests : Request → State → Bool → Bool → Bool → Ran
 by-tests q s image p budget =
-    cond image (cond p (ran 0 (Failed wrongP) s) (cond budget (ran 0 (Failed overBudget) s) (runFrom (q .budget) s))) (ran 0 (Failed wrongImage) s)
+    cond image (cond p (idle (Failed wrongP) s) (cond budget (idle (Failed overBudget) s) (runFrom (q .budget) s))) (idle (Failed wrongImage) s)
 
 module _ (q : Request) (s : State) where
   tested : {image p budget : Bool} → eqb (length (s .image)) 16384 ≡ image → ltb 16383 (s .machine .p) ≡ p → ltb 1000000 (q .budget) ≡ budget
@@ -45,7 +45,7 @@ module _ (q : Request) (s : State) where
   pub decided : Decision q s
   decided = decided-by _ _ _ refl refl refl
 
-  refusal-answer : (n : ℕ) → Refusal q s n → runDef q s ≡ ran 0 (Failed n) s
+  refusal-answer : (n : ℕ) → Refusal q s n → runDef q s ≡ idle (Failed n) s
   unfolding by-tests
   refusal-answer n (of-image h) = tested (ne-eqb _ _ h) refl refl
   refusal-answer n (of-p h l) = tested (eq-eqb _ _ h) (lt-ltb _ _ l) refl

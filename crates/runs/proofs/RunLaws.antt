@@ -5,8 +5,8 @@ use Rattle.machine.specs.declared.Request.{Request}
 use Rattle.machine.specs.declared.Outcome.the-variants.{Halted}
 use Rattle.machine.specs.Failure.{refused}
 use Rattle.machine.specs.State.{State}
-use Rattle.machine.specs.Run.{ran, runDef}
-use Rattle.machine.proofs.Turns.{run-halted}
+use Rattle.machine.specs.Run.{idle, runDef}
+use Rattle.machine.proofs.RunSteps.{run-halted}
 use Rattle.runs.specs.Outcomes.{Ended}
 use Rattle.runs.specs.RunLaws.{RunLaws}
 use Rattle.runs.proofs.Iteration.{run-ends}
@@ -17,7 +17,7 @@ use Rattle.runs.proofs.Lists.{list, resumed, reached, halts, all-made}
 ended : (q : Request) (s : State) → refused (runDef q s .outcome) ≡ false → Ended (q .budget) s (runDef q s)
 ended q s h = subst (Ended (q .budget) s) (sym (allowed q s h .2)) (run-ends (q .budget) s)
 
-halted : (q : Request) (s : State) → refused (runDef q s .outcome) ≡ false → s .machine .halted ≡ true → runDef q s ≡ ran 0 Halted s
+halted : (q : Request) (s : State) → refused (runDef q s .outcome) ≡ false → s .machine .halted ≡ true → runDef q s ≡ idle Halted s
 halted q s h d = allowed q s h .2 ∙ run-halted (q .budget) s d
 
 pub run-laws : RunLaws

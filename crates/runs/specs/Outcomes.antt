@@ -10,21 +10,21 @@ use Rattle.machine.specs.declared.Outcome.the-variants.{Halted, Spent, Failed}
 use Rattle.machine.specs.Failure.{wrongImage, unknownWord, longChain, overBudget, wrongP, refused}
 use Rattle.machine.specs.State.{State, Good}
 use Rattle.machine.specs.Step.{failed, stepDef}
-use Rattle.machine.specs.Run.{Ran, ran, runDef}
+use Rattle.machine.specs.Run.{Ran, idle, runDef}
 use Rattle.runs.specs.Steps.{Steps}
 
 -- what the outcome of a run on a budget says (R3, demand 1b): spent, that no step is left and none was a halt (R4); failed, that the step which failed
 -- is the one from the state that is left, with 20 or 21 (R6, demand 1d)
 abbrev pub Says : ℕ → Ran → Outcome → Type 0
 Says budget r Halted = r .state .machine .halted ≡ true
-Says budget r Spent = (r .steps ≡ budget) × (r .state .machine .halted ≡ false)
+Says budget r Spent = (r .work .steps ≡ budget) × (r .state .machine .halted ≡ false)
 Says budget r (Failed f) =
-    (r .steps < budget) × (r .state .machine .halted ≡ false) × (stepDef (r .state) ≡ failed f) × ((f ≡ unknownWord) ⊎ (f ≡ longChain))
+    (r .work .steps < budget) × (r .state .machine .halted ≡ false) × (stepDef (r .state) ≡ failed f) × ((f ≡ unknownWord) ⊎ (f ≡ longChain))
 
 -- r is the end of a run from s on a budget: just so many steps were made as it reports, no more than the budget (R2, demand 1b)
 pub record Ended (budget : ℕ) (s : State) (r : Ran) : Type 0 where
-  pub made : Steps (r .steps) s (r .state)
-  pub within : r .steps ≤ budget
+  pub made : Steps (r .work .steps) s (r .state)
+  pub within : r .work .steps ≤ budget
   pub says : Says budget r (r .outcome)
 
 -- why a run is refused, and with which number, each where none before it applies (J12, F1, F22, F23)
@@ -35,5 +35,5 @@ pub data Refusal : Request → State → ℕ → Type 0 where
 
 -- a run is refused with the number n exactly on n's cause; then it makes no step and changes nothing (R7, demand 1d, 2b)
 pub record RefusedExactly (q : Request) (s : State) (n : ℕ) : Type 0 where
-  pub answer : Refusal q s n → runDef q s ≡ ran 0 (Failed n) s
+  pub answer : Refusal q s n → runDef q s ≡ idle (Failed n) s
   pub cause : refused (runDef q s .outcome) ≡ true → runDef q s .outcome ≡ Failed n → Refusal q s n

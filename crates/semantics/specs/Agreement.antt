@@ -82,18 +82,18 @@ Rising low (Trace.observe m t) = (low ≤ m .steps) × Rising (m .steps) t
 
 -- a list of runs comes to the meaning's state τ: it has made τ's number of steps, none a halt, and shows τ (demand 3f, 3g)
 pub record Meets (p : Program) (τ : State) (t : Total) : Type 0 where
-  pub steps : t .steps ≡ τ .steps
+  pub steps : t .work .steps ≡ τ .steps
   pub running : t .state .machine .halted ≡ false
   pub shows : Shows p τ (t .state)
 
 -- every step that was granted is made, none a halt (demand 3i)
 pub record AllMade (t : Total) : Type 0 where
-  pub steps : t .steps ≡ t .granted
+  pub steps : t .work .steps ≡ t .granted
   pub running : t .state .machine .halted ≡ false
 
 -- the list halts where the meaning ended in τ: by one step more, and shows τ (demand 3h)
 pub record HaltsAfter (p : Program) (τ : State) (t : Total) : Type 0 where
-  pub steps : t .steps ≡ suc (τ .steps)
+  pub steps : t .work .steps ≡ suc (τ .steps)
   pub halted : t .state .machine .halted ≡ true
   pub shows : Shows p τ (t .state)
 

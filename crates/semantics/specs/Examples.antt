@@ -51,9 +51,10 @@ start = record {
   steps = 0;
 }
 
-abbrev shown : Got Program → List ℕ × Ending
-shown (Got.got p next) = (numbers (meaning 3 p start), end (meaning 3 p start))
-shown (Got.failed n at) = ([], Ending.refused n at 0)
+-- with so much fuel, from a start
+abbrev pub shown : ℕ → State → Got Program → List ℕ × Ending
+shown fuel σ (Got.got p next) = (numbers (meaning fuel p σ), end (meaning fuel p σ))
+shown fuel σ (Got.failed n at) = ([], Ending.refused n at 0)
 
 abbrev rows : List (String × List ℕ × Ending)
 rows =
@@ -103,6 +104,6 @@ rows =
     (".BEGIN .INTEGER I; .CONSTANT K=3; .COMPCONSTANT C=4; .ARRAY T[2]; .PROCEDURE P; .BEGIN .INTEGER L; L = @ + L; @ = L .END; P(3); P(C) .END", 0 ∷ 4 ∷ 5 ∷ 6 ∷ 10 ∷ 11 ∷ 12 ∷ [], Ending.done 12 7 0) ∷
     (".BEGIN .ARRAY T[2]; T[#] = 5 .END", 0 ∷ [], Ending.broken 1 5 0) ∷ []
 
-examples : map (λ row. shown (parseProgram (bytes (row .0)))) rows ≡ map {B = List ℕ × Ending} (λ row. (row .1, row .2)) rows
+examples : map (λ row. shown 3 start (parseProgram (bytes (row .0)))) rows ≡ map {B = List ℕ × Ending} (λ row. (row .1, row .2)) rows
 unfolding computed
 examples = refl

@@ -3,3 +3,4 @@ pub mod Acts
 pub mod Meaning
 pub mod Agreement
 pub mod Examples
+pub mod OutsideExamples

@@ -1,7 +1,7 @@
 -- Words of 16 bits are numbers below 65536: their sums, differences and comparisons.
 --
 use Prim.Native.Nat.{ℕ, _+_, _-_, _%_}
-use mathlib.Core.Bool.{Bool, true, cond}
+use mathlib.Core.Bool.{Bool, cond, _||_}
 use lib.Dec.{eqb, leb, ltb}
 use Rattle.word.specs.declared.Flagged.{Flagged}
 
@@ -13,16 +13,20 @@ flagged w c = record { word = w; flag = c }
 abbrev pub bit : Bool → ℕ
 bit b = cond b 1 0
 
+-- the bit of the sign, and so the least word whose sign is -
+abbrev pub SIGN : ℕ
+SIGN = 0o100000
+
 abbrev pub negative : ℕ → Bool
-negative w = leb 32768 w
+negative w = leb SIGN w
 
 -- a word's signed value, plus 32768: natural numbers in the order of the signed values
 abbrev pub biased : ℕ → ℕ
-biased w = (w + 32768) % 65536
+biased w = (w + SIGN) % 65536
 
 -- a signed value, given plus 65536, is below -32768 or above 32767 (I9)
 abbrev pub overflows : ℕ → Bool
-overflows n = cond (ltb n 32768) true (leb 98304 n)
+overflows raised = ltb raised 32768 || leb 98304 raised
 
 -- the sum, wrapped to a word, and C for its overflow (I6, I9)
 unfoldable pub sumOf : ℕ → ℕ → Flagged

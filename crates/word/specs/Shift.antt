@@ -1,6 +1,6 @@
--- The six shifts by n, from 1 to 15: the word (I11), and the bit that goes to C (I12).
+-- The six shifts by an amount from 1 to 15: the word (I11), and the bit that goes to C (I12).
 use Prim.Native.Nat.{ℕ, zero, suc, _+_, _-_, _*_, _/_, _%_, _^_}
-use mathlib.Core.Bool.{Bool, true, false, cond}
+use mathlib.Core.Bool.{Bool, true, false, cond, _||_}
 use lib.Dec.{eqb, ltb}
 use Rattle.word.specs.declared.Flagged.{Flagged}
 use Rattle.word.specs.Arithmetic.{flagged, negative}
@@ -24,25 +24,25 @@ ALS = 0o415
 abbrev pub ALR : ℕ
 ALR = 0o416
 
--- bit k of a word, 0 the lowest. The last bit moved out is bit n - 1 to the right, and bit 16 - n to the left (I12)
+-- the bit of a word at a place, 0 the lowest. The last bit moved out is bit amount - 1 to the right, and bit 16 - amount to the left (I12)
 abbrev pub bitAt : ℕ → ℕ → Bool
-bitAt w k = eqb (w / 2 ^ k % 2) 1
+bitAt w place = eqb (w / 2 ^ place % 2) 1
 
 -- zeros move in
 abbrev pub logicalRight : ℕ → ℕ → Flagged
-logicalRight n w = flagged (w / 2 ^ n) (bitAt w (n - 1))
+logicalRight amount w = flagged (w / 2 ^ amount) (bitAt w (amount - 1))
 
 -- copies of the sign move in
 abbrev pub arithmeticRight : ℕ → ℕ → Flagged
-arithmeticRight n w = flagged (cond (negative w) ((w / 2 ^ n + 65536 - 2 ^ (16 - n)) % 65536) (w / 2 ^ n)) (bitAt w (n - 1))
+arithmeticRight amount w = flagged (cond (negative w) ((w / 2 ^ amount + 65536 - 2 ^ (16 - amount)) % 65536) (w / 2 ^ amount)) (bitAt w (amount - 1))
 
 -- what moves out at one end moves in at the other
 abbrev pub rotateRight : ℕ → ℕ → Flagged
-rotateRight n w = flagged ((w / 2 ^ n + w * 2 ^ (16 - n)) % 65536) (bitAt w (n - 1))
+rotateRight amount w = flagged ((w / 2 ^ amount + w * 2 ^ (16 - amount)) % 65536) (bitAt w (amount - 1))
 
 -- zeros move in
 abbrev pub logicalLeft : ℕ → ℕ → Flagged
-logicalLeft n w = flagged (w * 2 ^ n % 65536) (bitAt w (16 - n))
+logicalLeft amount w = flagged (w * 2 ^ amount % 65536) (bitAt w (16 - amount))
 
 abbrev pub differ : Bool → Bool → Bool
 differ true b = cond b false true
@@ -55,22 +55,22 @@ signChanges (suc n) w = cond (differ (negative w) (negative (w * 2 % 65536))) tr
 
 -- as logicalLeft, but C says whether the sign changed (I12)
 abbrev pub arithmeticLeft : ℕ → ℕ → Flagged
-arithmeticLeft n w = flagged (w * 2 ^ n % 65536) (signChanges n w)
+arithmeticLeft amount w = flagged (w * 2 ^ amount % 65536) (signChanges amount w)
 
 -- what moves out at one end moves in at the other
 abbrev pub rotateLeft : ℕ → ℕ → Flagged
-rotateLeft n w = flagged ((w * 2 ^ n + w / 2 ^ (16 - n)) % 65536) (bitAt w (16 - n))
+rotateLeft amount w = flagged ((w * 2 ^ amount + w / 2 ^ (16 - amount)) % 65536) (bitAt w (16 - amount))
 
 abbrev pub byKind : ℕ → ℕ → ℕ → Bool → Flagged
-byKind kind n w c =
-    cond (eqb kind LGR) (logicalRight n w)
-    (cond (eqb kind ARS) (arithmeticRight n w)
-    (cond (eqb kind ARR) (rotateRight n w)
-    (cond (eqb kind LGL) (logicalLeft n w)
-    (cond (eqb kind ALS) (arithmeticLeft n w)
-    (cond (eqb kind ALR) (rotateLeft n w)
+byKind kind amount w c =
+    cond (eqb kind LGR) (logicalRight amount w)
+    (cond (eqb kind ARS) (arithmeticRight amount w)
+    (cond (eqb kind ARR) (rotateRight amount w)
+    (cond (eqb kind LGL) (logicalLeft amount w)
+    (cond (eqb kind ALS) (arithmeticLeft amount w)
+    (cond (eqb kind ALR) (rotateLeft amount w)
     (flagged w c))))))
 
 -- an amount or a kind that no instruction has leaves both
 unfoldable pub shiftOf : ℕ → ℕ → ℕ → Bool → Flagged
-shiftOf kind n w c = cond (ltb n 1) (flagged w c) (cond (ltb 15 n) (flagged w c) (byKind kind n w c))
+shiftOf kind amount w c = cond (ltb amount 1 || ltb 15 amount) (flagged w c) (byKind kind amount w c)

@@ -7,6 +7,9 @@ ghost use Rattle.word.specs.Arithmetic.{bit, biased, overflows, sumOf, d
 pub mod bytes;
 pub mod shift;
 
+// The bit of the sign, and so the least word whose sign is -.
+pub const SIGN: u16 = 0o100000;
+
 // A word, and the bit that goes to C.
 pub struct Flagged {
     pub word: u16,
@@ -23,34 +26,31 @@ pub fn bit(b: bool) -> u16
 fn bias(w: u16) -> u32
     ensures { λ r. ⌜ (r ≡ biased w) × (r < 65536) ⌝ }
 {
-    (w as u32 + 32768) % 65536
+    (w as u32 + SIGN as u32) % 65536
 }
 
 // Whether a signed value, given plus 65536, is outside of what a word holds.
-fn overflow(n: u32) -> bool
-    ensures { λ r. ⌜ r ≡ overflows n ⌝ }
+fn overflow(raised: u32) -> bool
+    ensures { λ r. ⌜ r ≡ overflows raised ⌝ }
 {
-    if n < 32768 {
-        return true;
-    }
-    98304 <= n
+    raised < 32768 || 98304 <= raised
 }
 
 pub fn sum(a: u16, v: u16) -> Flagged
     ensures { λ r. ⌜ r ≡ sumOf a v ⌝ }
 {
-    let n = bias(a) + bias(v);
+    let raised = bias(a) + bias(v);
     let word = ((a as u32 + v as u32) % 65536) as u16;
-    let flag = overflow(n);
+    let flag = overflow(raised);
     Flagged { word, flag }
 }
 
 pub fn difference(a: u16, v: u16) -> Flagged
     ensures { λ r. ⌜ r ≡ differenceOf a v ⌝ }
 {
-    let n = bias(a) + 65536 - bias(v);
+    let raised = bias(a) + 65536 - bias(v);
     let word = ((a as u32 + 65536 - v as u32) % 65536) as u16;
-    let flag = overflow(n);
+    let flag = overflow(raised);
     Flagged { word, flag }
 }
 
@@ -58,12 +58,12 @@ pub fn difference(a: u16, v: u16) -> Flagged
 pub fn compare(a: u16, v: u16) -> u16
     ensures { λ r. ⌜ r ≡ compareOf a v ⌝ }
 {
-    let x = bias(a);
-    let y = bias(v);
-    if y < x {
+    let biased_a = bias(a);
+    let biased_v = bias(v);
+    if biased_v < biased_a {
         return 0;
     }
-    if x == y {
+    if biased_a == biased_v {
         return 1;
     }
     2

@@ -1,5 +1,6 @@
 // The six shifts.
 use crate::Flagged;
+use crate::SIGN;
 ghost use mathlib.Core.Path.{_≡_};
 ghost use Prim.Native.Nat.{_<_, _≤_, _*_, _/_, _^_};
 ghost use Rattle.word.specs.Shift.{bitAt, logicalRight, arithmeticRight, rotateRight, logicalLeft, arithmeticLeft, rotateLeft, signChanges, shiftOf};
@@ -17,137 +18,136 @@ pub const ALS: u16 = 0o415;
 
 pub const ALR: u16 = 0o416;
 
-fn down(w: u16, n: u16) -> u32
-    requires { ⌜ n ≤ 16 ⌝ }
-    ensures { λ r. ⌜ (r ≡ w / 2 ^ n) × (r < 65536) ⌝ }
+fn shifted_right(w: u16, amount: u16) -> u32
+    requires { ⌜ amount ≤ 16 ⌝ }
+    ensures { λ r. ⌜ (r ≡ w / 2 ^ amount) × (r < 65536) ⌝ }
 {
-    (w as u32) >> n
+    (w as u32) >> amount
 }
 
-fn up(w: u32, n: u16) -> u32
-    requires { ⌜ (w < 65536) × (n < 16) ⌝ }
-    ensures { λ r. ⌜ (r ≡ w * 2 ^ n) × (r ≤ 65535 * 32768) ⌝ }
+// Not wrapped to a word.
+fn shifted_left(w: u32, amount: u16) -> u32
+    requires { ⌜ (w < 65536) × (amount < 16) ⌝ }
+    ensures { λ r. ⌜ (r ≡ w * 2 ^ amount) × (r ≤ 65535 * 32768) ⌝ }
 {
-    w << n
+    w << amount
 }
 
-fn bit(w: u16, k: u16) -> bool
-    requires { ⌜ k ≤ 16 ⌝ }
-    ensures { λ r. ⌜ r ≡ bitAt w k ⌝ }
+fn bit_at(w: u16, place: u16) -> bool
+    requires { ⌜ place ≤ 16 ⌝ }
+    ensures { λ r. ⌜ r ≡ bitAt w place ⌝ }
 {
-    down(w, k) % 2 == 1
+    shifted_right(w, place) % 2 == 1
 }
 
-fn logical_right(n: u16, w: u16) -> Flagged
-    requires { ⌜ (1 ≤ n) × (n ≤ 15) ⌝ }
-    ensures { λ r. ⌜ r ≡ logicalRight n w ⌝ }
+fn logical_right(amount: u16, w: u16) -> Flagged
+    requires { ⌜ (1 ≤ amount) × (amount ≤ 15) ⌝ }
+    ensures { λ r. ⌜ r ≡ logicalRight amount w ⌝ }
 {
-    let flag = bit(w, n - 1);
+    let flag = bit_at(w, amount - 1);
     Flagged {
-        word: down(w, n) as u16,
+        word: shifted_right(w, amount) as u16,
         flag,
     }
 }
 
-fn arithmetic_right(n: u16, w: u16) -> Flagged
-    requires { ⌜ (1 ≤ n) × (n ≤ 15) ⌝ }
-    ensures { λ r. ⌜ r ≡ arithmeticRight n w ⌝ }
+fn arithmetic_right(amount: u16, w: u16) -> Flagged
+    requires { ⌜ (1 ≤ amount) × (amount ≤ 15) ⌝ }
+    ensures { λ r. ⌜ r ≡ arithmeticRight amount w ⌝ }
 {
-    let flag = bit(w, n - 1);
-    let d = down(w, n);
-    if 32768 <= w {
-        let u = up(1, 16 - n);
+    let flag = bit_at(w, amount - 1);
+    let moved = shifted_right(w, amount);
+    if SIGN <= w {
+        // What was moved is below the limit: the bits from there up are the copies of the sign.
+        let limit = shifted_left(1, 16 - amount);
         return Flagged {
-            word: ((d + 65536 - u) % 65536) as u16,
+            word: ((moved + 65536 - limit) % 65536) as u16,
             flag,
         };
     }
     Flagged {
-        word: d as u16,
+        word: moved as u16,
         flag,
     }
 }
 
-fn rotate_right(n: u16, w: u16) -> Flagged
-    requires { ⌜ (1 ≤ n) × (n ≤ 15) ⌝ }
-    ensures { λ r. ⌜ r ≡ rotateRight n w ⌝ }
+fn rotate_right(amount: u16, w: u16) -> Flagged
+    requires { ⌜ (1 ≤ amount) × (amount ≤ 15) ⌝ }
+    ensures { λ r. ⌜ r ≡ rotateRight amount w ⌝ }
 {
-    let flag = bit(w, n - 1);
-    let d = down(w, n);
-    let u = up(w as u32, 16 - n);
+    let flag = bit_at(w, amount - 1);
+    let low = shifted_right(w, amount);
+    let high = shifted_left(w as u32, 16 - amount);
     Flagged {
-        word: ((d + u) % 65536) as u16,
+        word: ((low + high) % 65536) as u16,
         flag,
     }
 }
 
-fn logical_left(n: u16, w: u16) -> Flagged
-    requires { ⌜ (1 ≤ n) × (n ≤ 15) ⌝ }
-    ensures { λ r. ⌜ r ≡ logicalLeft n w ⌝ }
+fn logical_left(amount: u16, w: u16) -> Flagged
+    requires { ⌜ (1 ≤ amount) × (amount ≤ 15) ⌝ }
+    ensures { λ r. ⌜ r ≡ logicalLeft amount w ⌝ }
 {
-    let flag = bit(w, 16 - n);
-    let u = up(w as u32, n);
+    let flag = bit_at(w, 16 - amount);
+    let moved = shifted_left(w as u32, amount);
     Flagged {
-        word: (u % 65536) as u16,
+        word: (moved % 65536) as u16,
         flag,
     }
 }
 
-// The sign changes on the way exactly if the word's magnitude times 2^n does not fit.
-fn sign_changes(n: u16, w: u16) -> bool
-    requires { ⌜ n ≤ 15 ⌝ }
-    ensures { λ r. ⌜ r ≡ signChanges n w ⌝ }
+// The sign changes on the way exactly if the shifted magnitude does not fit.
+fn sign_changes(amount: u16, w: u16) -> bool
+    requires { ⌜ amount ≤ 15 ⌝ }
+    ensures { λ r. ⌜ r ≡ signChanges amount w ⌝ }
 {
-    if w < 32768 {
-        let u = up(w as u32, n);
-        return 32768 <= u;
+    if w < SIGN {
+        let magnitude = shifted_left(w as u32, amount);
+        return 32768 <= magnitude;
     }
-    let u = up(65536 - w as u32, n);
-    32768 < u
+    let magnitude = shifted_left(65536 - w as u32, amount);
+    32768 < magnitude
 }
 
-fn arithmetic_left(n: u16, w: u16) -> Flagged
-    requires { ⌜ (1 ≤ n) × (n ≤ 15) ⌝ }
-    ensures { λ r. ⌜ r ≡ arithmeticLeft n w ⌝ }
+fn arithmetic_left(amount: u16, w: u16) -> Flagged
+    requires { ⌜ (1 ≤ amount) × (amount ≤ 15) ⌝ }
+    ensures { λ r. ⌜ r ≡ arithmeticLeft amount w ⌝ }
 {
-    let flag = sign_changes(n, w);
-    let u = up(w as u32, n);
+    let flag = sign_changes(amount, w);
+    let moved = shifted_left(w as u32, amount);
     Flagged {
-        word: (u % 65536) as u16,
+        word: (moved % 65536) as u16,
         flag,
     }
 }
 
-fn rotate_left(n: u16, w: u16) -> Flagged
-    requires { ⌜ (1 ≤ n) × (n ≤ 15) ⌝ }
-    ensures { λ r. ⌜ r ≡ rotateLeft n w ⌝ }
+fn rotate_left(amount: u16, w: u16) -> Flagged
+    requires { ⌜ (1 ≤ amount) × (amount ≤ 15) ⌝ }
+    ensures { λ r. ⌜ r ≡ rotateLeft amount w ⌝ }
 {
-    let flag = bit(w, 16 - n);
-    let d = down(w, 16 - n);
-    let u = up(w as u32, n);
+    let flag = bit_at(w, 16 - amount);
+    let low = shifted_right(w, 16 - amount);
+    let high = shifted_left(w as u32, amount);
     Flagged {
-        word: ((u + d) % 65536) as u16,
+        word: ((high + low) % 65536) as u16,
         flag,
     }
 }
 
-// The word w, shifted by n, with C before as c.
-pub fn shift(kind: u16, n: u16, w: u16, c: bool) -> Flagged
-    ensures { λ r. ⌜ r ≡ shiftOf kind n w c ⌝ }
+// The word w, shifted, with C before as c.
+pub fn shift(kind: u16, amount: u16, w: u16, c: bool) -> Flagged
+    ensures { λ r. ⌜ r ≡ shiftOf kind amount w c ⌝ }
 {
-    if n < 1 {
-        return Flagged { word: w, flag: c };
-    }
-    if 15 < n {
+    if amount < 1 || 15 < amount {
         return Flagged { word: w, flag: c };
     }
     match kind {
-        LGR => logical_right(n, w),
-        ARS => arithmetic_right(n, w),
-        ARR => rotate_right(n, w),
-        LGL => logical_left(n, w),
-        ALS => arithmetic_left(n, w),
-        ALR => rotate_left(n, w),
+        LGR => logical_right(amount, w),
+        ARS => arithmetic_right(amount, w),
+        ARR => rotate_right(amount, w),
+        LGL => logical_left(amount, w),
+        ALS => arithmetic_left(amount, w),
+        ALR => rotate_left(amount, w),
         _ => Flagged { word: w, flag: c },
     }
 }

@@ -1,6 +1,6 @@
 -- Each arm is the case of the definition for its name.
 use borrow.Author.Tests.{ne-eqb}
-use mathlib.Core.Path.{ap}
+use mathlib.Core.Path.{refl, ap}
 use mathlib.Core.Bool.{not}
 use Rattle.effect.specs.Skips.{skipsOf}
 use borrow.Author.Needs.{needs}
@@ -59,11 +59,11 @@ returns-11 c = rw (c .match .keys11)
 
 returns-12 : tie.Need-returns-12
 unfolding skipsOf
-returns-12 c = rw (c .match .keys12)
+returns-12 c = rw (c .match .keys12) refl
 
 returns-13 : tie.Need-returns-13
 unfolding skipsOf
-returns-13 c = rw (c .match .keys13)
+returns-13 c = rw (c .match .keys13) refl
 
 returns-14 : tie.Need-returns-14
 unfolding skipsOf

@@ -1,4 +1,5 @@
 -- Each arm is the case of the definition for its name.
+use mathlib.Core.Path.{refl}
 use borrow.Author.Tests.{ne-eqb}
 use Rattle.effect.specs.Effects.{unaryOf}
 use borrow.Author.Needs.{needs}
@@ -29,11 +30,14 @@ with-a-requires-3 c κs = search needs
 cast-with-a-3 : tie.Need-cast-with-a-3
 cast-with-a-3 c = search needs
 
+cast-with-a-4 : tie.Need-cast-with-a-4
+cast-with-a-4 c = search needs
+
 add-with-a : tie.Need-add-with-a
 add-with-a c = search needs
 
-cast-with-a-4 : tie.Need-cast-with-a-4
-cast-with-a-4 c = search needs
+cast-with-a-5 : tie.Need-cast-with-a-5
+cast-with-a-5 c = search needs
 
 with-a-requires-4 : tie.Need-with-a-requires-4
 with-a-requires-4 c κs = search needs
@@ -71,8 +75,14 @@ sum-requires c κs = search needs
 with-flagged-requires : tie.Need-with-flagged-requires
 with-flagged-requires c κs = search needs
 
-add-c-requires : tie.Need-add-c-requires
-add-c-requires c κs = search needs
+bit-requires : tie.Need-bit-requires
+bit-requires c κs = search needs
+
+sum-requires-2 : tie.Need-sum-requires-2
+sum-requires-2 c κs = search needs
+
+with-flagged-requires-2 : tie.Need-with-flagged-requires-2
+with-flagged-requires-2 c κs = search needs
 
 icr-requires : tie.Need-icr-requires
 icr-requires c κs = search needs
@@ -132,7 +142,7 @@ returns-11 c = rw (c .before .before .match .keys11, c .with-flagged .ensures, c
 
 returns-12 : tie.Need-returns-12
 unfolding unaryOf
-returns-12 c = rw (c .before .match .keys12) (c .add-c .ensures)
+returns-12 c = rw (c .before .before .before .match .keys12, c .with-flagged2 .ensures, c .before .sum2 .ensures, c .before .before .bit .ensures .0) refl
 
 returns-13 : tie.Need-returns-13
 unfolding unaryOf
@@ -158,8 +168,9 @@ unary-spec =
     cast-with-a-2
     with-a-requires-3
     cast-with-a-3
-    add-with-a
     cast-with-a-4
+    add-with-a
+    cast-with-a-5
     with-a-requires-4
     with-a-requires-5
     add-with-a-2
@@ -172,7 +183,9 @@ unary-spec =
     with-a-requires-9
     sum-requires
     with-flagged-requires
-    add-c-requires
+    bit-requires
+    sum-requires-2
+    with-flagged-requires-2
     icr-requires
     with-a-requires-10
     ica-requires

@@ -1,19 +1,19 @@
--- At each `return` the tests that led there say which case holds.
-use borrow.Author.Tests.{lt-ltb, le-ltb, le-leb, lt-leb}
+use Rattle.instruction.proofs.Encoding.{kind-test}
+use borrow.Author.Needs.{needs}
 use Rattle.instruction.proofs.is_shift.Statement.{statement}
 use Rattle.instruction.proofs.is_shift.Tie as tie
 
+within-requires : tie.Need-within-requires
+within-requires c κs = search needs
+
+within-requires-2 : tie.Need-within-requires-2
+within-requires-2 c κs = search needs
+
 returns : tie.Need-returns
-returns c = simp (lt-ltb _ _ (c .if1 .taken))
+returns c = rw (kind-test (c .before .before .args .kind), ← (c .before .within .ensures), c .if1 .taken)
 
 returns-2 : tie.Need-returns-2
-returns-2 c = simp (le-ltb _ _ (c .before .if1 .left), le-leb _ _ (c .if2 .taken))
-
-returns-3 : tie.Need-returns-3
-returns-3 c = simp (le-ltb _ _ (c .before .before .if1 .left), lt-leb _ _ (c .before .if2 .left), lt-ltb _ _ (c .if3 .taken))
-
-returns-4 : tie.Need-returns-4
-returns-4 c = simp (le-ltb _ _ (c .before .before .if1 .left), lt-leb _ _ (c .before .if2 .left), le-ltb _ _ (c .if3 .left))
+returns-2 c = rw (kind-test (c .before .before .before .args .kind), ← (c .before .before .within .ensures), c .before .if1 .left, ← (c .within2 .ensures))
 
 pub is-shift-spec : {M : Type 1} → statement M
-is-shift-spec = tie.close (tie.spec returns returns-2 returns-3 returns-4)
+is-shift-spec = tie.close (tie.spec within-requires within-requires-2 returns returns-2)

@@ -1,27 +1,23 @@
--- At each `return` the tests that led there say which case holds.
-use borrow.Author.Tests.{lt-ltb, le-ltb}
+use mathlib.Core.Logic.{⊎-elim}
+use borrow.Author.Tests.{le-leb, lt-leb}
 use Rattle.instruction.specs.Decode.{shiftOf}
 use borrow.Author.Needs.{needs}
 use Rattle.instruction.proofs.shift.Statement.{statement}
 use Rattle.instruction.proofs.shift.Tie as tie
 
-returns : tie.Need-returns
-unfolding shiftOf
-returns c = simp (lt-ltb _ _ (c .if1 .taken))
-
 is-shift-requires : tie.Need-is-shift-requires
 is-shift-requires c κs = search needs
 
-sub-t8 : tie.Need-sub-t8
-sub-t8 c = search needs
+sub-t7 : tie.Need-sub-t7
+sub-t7 c = search needs
+
+returns : tie.Need-returns
+unfolding shiftOf
+returns c = simp (le-leb 49 _ (c .before .before .if1 .taken), ← (c .before .is-shift .ensures), c .if2 .taken)
 
 returns-2 : tie.Need-returns-2
 unfolding shiftOf
-returns-2 c = simp (le-ltb _ _ (c .before .before .if1 .left), ← (c .before .is-shift .ensures), c .if2 .taken)
-
-returns-3 : tie.Need-returns-3
-unfolding shiftOf
-returns-3 c = simp (le-ltb _ _ (c .before .before .if1 .left), ← (c .before .is-shift .ensures), c .if2 .left)
+returns-2 c = ⊎-elim (λ w. simp (le-leb 49 _ (w .0 .taken), ← (w .1 .ensures), w .2 .left)) (λ w. simp (lt-leb 49 _ (w .left))) (c .if1 .came)
 
 pub shift-spec : {M : Type 1} → statement M
-shift-spec = tie.close (tie.spec returns is-shift-requires sub-t8 returns-2 returns-3)
+shift-spec = tie.close (tie.spec is-shift-requires sub-t7 returns returns-2)

@@ -2,11 +2,11 @@ use borrow.Author.Needs.{needs}
 use Rattle.machine.proofs.ended.Statement.{statement}
 use Rattle.machine.proofs.ended.Tie as tie
 
-spent-requires : tie.Need-spent-requires
-spent-requires c κs = search needs
+clock-after-requires : tie.Need-clock-after-requires
+clock-after-requires c κs = search needs
 
 returns : tie.Need-returns
-returns c = simp (c .spent .ensures)
+returns c = simp (c .clock-after .ensures)
 
 pub ended-spec : {M : Type 1} → statement M
-ended-spec = tie.close (tie.spec spent-requires returns)
+ended-spec = tie.close (tie.spec clock-after-requires returns)

@@ -1,34 +1,53 @@
 -- At each `return` the tests that led there say which case of `runDef` holds.
+use Prim.Native.Nat.{ℕ, suc, _<_}
+use native.Mathlib.Omega.{arith}
 use borrow.Author.Tests.{lt-ltb, le-ltb, eq-eqb, ne-eqb}
-use mathlib.Core.Path.{refl}
+use mathlib.Core.Path.{_≡_, refl}
+use mathlib.Core.Bool.{false}
+use lib.Dec.{ltb}
 use Rattle.machine.specs.Run.{runDef}
+use Rattle.machine.specs.Clock.{spendMany}
 use borrow.Author.Needs.{needs}
 use Rattle.machine.proofs.run.Statement.{statement}
 use Rattle.machine.proofs.run.Tie as tie
 
-ended-requires : tie.Need-ended-requires
-ended-requires c κs = search needs
+within : (limit : ℕ) {n : ℕ} → n < suc limit → ltb limit n ≡ false
+within limit {n} h = le-ltb limit n (omega arith)
+
+cast-if1 : tie.Need-cast-if1
+cast-if1 c = search needs
+
+refused-requires : tie.Need-refused-requires
+refused-requires c κs = search needs
 
 returns : tie.Need-returns
-unfolding runDef
-returns c = rw (ne-eqb _ _ (c .before .if1 .taken)) (c .ended .ensures, refl)
+unfolding runDef spendMany
+returns c = rw (ne-eqb _ 16384 (c .before .if1 .taken)) (c .refused .ensures, refl)
 
-ended-requires-2 : tie.Need-ended-requires-2
-ended-requires-2 c κs = search needs
+refused-requires-2 : tie.Need-refused-requires-2
+refused-requires-2 c κs = search needs
 
 returns-2 : tie.Need-returns-2
-unfolding runDef
-returns-2 c = rw (eq-eqb _ _ (c .before .before .before .if1 .left), lt-ltb _ _ (c .before .if2 .taken)) (c .ended2 .ensures, refl)
+unfolding runDef spendMany
+returns-2 c =
+    let at-if2 = c .before in
+    let at-if1 = at-if2 .before .before in
+    rw (eq-eqb _ 16384 (at-if1 .if1 .left), lt-ltb 16383 _ (at-if2 .if2 .taken)) (c .refused2 .ensures, refl)
 
-ended-requires-3 : tie.Need-ended-requires-3
-ended-requires-3 c κs = search needs
+refused-requires-3 : tie.Need-refused-requires-3
+refused-requires-3 c κs = search needs
 
 returns-3 : tie.Need-returns-3
-unfolding runDef
-returns-3 c = rw (eq-eqb _ _ (c .before .before .before .before .before .if1 .left), le-ltb _ _ (c .before .before .before .if2 .left), lt-ltb _ _ (c .before .if3 .taken)) (c .ended3 .ensures, refl)
+unfolding runDef spendMany
+returns-3 c =
+    let at-if3 = c .before in
+    let at-if2 = at-if3 .before .before in
+    let at-if1 = at-if2 .before .before in
+    rw (eq-eqb _ 16384 (at-if1 .if1 .left), within 16383 (at-if2 .if2 .left), lt-ltb 1000000 _ (at-if3 .if3 .taken))
+    (c .refused3 .ensures, refl)
 
-steps-requires : tie.Need-steps-requires
-steps-requires c κs = search needs
+make-steps-requires : tie.Need-make-steps-requires
+make-steps-requires c κs = search needs
 
 same-length : tie.Need-same-length
 same-length c = search needs
@@ -39,19 +58,20 @@ returns-4 c =
     let at-if3 = c .before .before .before .before in
     let at-if2 = at-if3 .before .before in
     let at-if1 = at-if2 .before .before in
-    rw (eq-eqb _ _ (at-if1 .if1 .left), le-ltb _ _ (at-if2 .if2 .left), le-ltb _ _ (at-if3 .if3 .left))
-    (c .before .before .steps .ensures)
+    rw (eq-eqb _ 16384 (at-if1 .if1 .left), within 16383 (at-if2 .if2 .left), le-ltb 1000000 _ (at-if3 .if3 .left))
+    (c .before .before .make-steps .ensures)
 
 pub run-spec : {M : Type 1} → statement M
 run-spec =
     tie.close
     (tie.spec
-    ended-requires
+    cast-if1
+    refused-requires
     returns
-    ended-requires-2
+    refused-requires-2
     returns-2
-    ended-requires-3
+    refused-requires-3
     returns-3
-    steps-requires
+    make-steps-requires
     same-length
     returns-4)

@@ -1,6 +1,10 @@
--- At each `return` the tests that led there say which case of `upTo` holds.
+-- Where the ways of a `&&` meet, the flag is the `&&` of the definition.
+use mathlib.Core.Path.{_≡_, refl, sym, _∙_}
+use mathlib.Core.Bool.{_&&_}
+use mathlib.Core.Logic.{⊎-elim}
 use borrow.Author.Tests.{le-leb, lt-leb}
-use Rattle.machine_export.specs.Export.{upTo}
+use Rattle.machine_export.specs.Places.{A, B}
+use Rattle.machine_export.specs.Export.{isWord}
 use borrow.Author.Needs.{needs}
 use Rattle.machine_export.proofs.words_fit.Statement.{statement}
 use Rattle.machine_export.proofs.words_fit.Tie as tie
@@ -8,36 +12,22 @@ use Rattle.machine_export.proofs.words_fit.Tie as tie
 shared-slice-read-if1 : tie.Need-shared-slice-read-if1
 shared-slice-read-if1 c = search needs
 
-returns : tie.Need-returns
-unfolding upTo
-returns c = simp (lt-leb _ 65535 (c .if1 .taken))
-
 shared-slice-read-if2 : tie.Need-shared-slice-read-if2
 shared-slice-read-if2 c = search needs
 
+shared-slice-read-result : tie.Need-shared-slice-read-result
+shared-slice-read-result c = search needs
+
+at-if2 : (c : tie.Joined1) → c .if1 .if2 ≡ (isWord (c .before .before .args .numbers .now) A && isWord (c .before .before .args .numbers .now) B)
+at-if2 c = ⊎-elim (λ w. rw (le-leb _ 65535 (w .0 .taken)) (w .2)) (λ w. rw (lt-leb _ 65535 (w .0 .left)) (w .1 ∙ lt-leb _ 65535 (w .0 .left))) (c .if1 .came)
+
+returns : tie.Need-returns
+returns c = rw (sym (at-if2 (c .before .before)) ∙ c .before .if2 .taken) refl
+
 returns-2 : tie.Need-returns-2
-unfolding upTo
-returns-2 c = simp (le-leb _ 65535 (c .before .before .if1 .left), lt-leb _ 65535 (c .if2 .taken))
-
-shared-slice-read-if3 : tie.Need-shared-slice-read-if3
-shared-slice-read-if3 c = search needs
-
-returns-3 : tie.Need-returns-3
-unfolding upTo
-returns-3 c = simp (le-leb _ 65535 (c .before .before .before .before .if1 .left), le-leb _ 65535 (c .before .before .if2 .left), lt-leb _ 65535 (c .if3 .taken))
-
-returns-4 : tie.Need-returns-4
-unfolding upTo
-returns-4 c = simp (le-leb _ 65535 (c .before .before .before .before .if1 .left), le-leb _ 65535 (c .before .before .if2 .left), le-leb _ 65535 (c .if3 .left))
+returns-2 c = rw (sym (at-if2 (c .before)) ∙ c .if2 .left) (c .if2 .left)
 
 pub words-fit-spec : {M : Type 1} → statement M
 words-fit-spec =
     tie.close
-    (tie.spec
-    shared-slice-read-if1
-    returns
-    shared-slice-read-if2
-    returns-2
-    shared-slice-read-if3
-    returns-3
-    returns-4)
+    (tie.spec shared-slice-read-if1 shared-slice-read-if2 shared-slice-read-result returns returns-2)

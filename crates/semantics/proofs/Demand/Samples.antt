@@ -64,11 +64,11 @@ sum-whole : (f : ℕ) (τ : State) → Breaks τ (meaning f sum start) → ⊥
 unfolding computed sum
 sum-whole f τ b = not-broken _ refl (breaks-on (breaks-on b))
 
-pub sum-halts : (s : machine.State) → Loaded (compiled sum) start s → (t : Total) → Comes s t → 4 < t .granted → (t .state .machine .halted ≡ true) × (t .steps ≡ 5)
+pub sum-halts : (s : machine.State) → Loaded (compiled sum) start s → (t : Total) → Comes s t → 4 < t .granted → (t .state .machine .halted ≡ true) × (t .work .steps ≡ 5)
 unfolding compiled
 sum-halts s l t k h = by-end (agrees _ sum sum-accepted s l .ends sum-whole t k)
   where
-    by-end : ListEnds sum start t → (t .state .machine .halted ≡ true) × (t .steps ≡ 5)
+    by-end : ListEnds sum start t → (t .state .machine .halted ≡ true) × (t .work .steps ≡ 5)
     by-end (ListEnds.halts f τ e b h) = (h .halted, h .steps ∙ ap suc (sum-ends f τ e))
     by-end (ListEnds.goes-on late made) = let l = sum-late (t .granted) late in absurd (omega arith)
 

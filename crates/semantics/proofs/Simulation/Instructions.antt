@@ -5,7 +5,7 @@ use mathlib.Core.Bool.{Bool, true, false}
 use mathlib.Core.List.{List}
 use native.Mathlib.Nat.{mod-lt, le-refl}
 use native.Mathlib.Omega.{arith}
-use lib.Dec.{eqb, leb}
+use lib.Dec.{eqb}
 use lib.ListN.{getD, set, length-set}
 use borrow.Author.Tests.{lt-leb}
 use Rattle.word.specs.Arithmetic.{bit, compareOf}
@@ -13,7 +13,8 @@ use Rattle.effect.specs.Effects.{operateOf, unaryOf}
 use Rattle.effect.specs.Skips.{skipsOf}
 use Rattle.instruction.specs.Opcode.{JMP, STA, JST, CAS, IRS, LDX}
 use Rattle.instruction.specs.Slot.{HLT}
-use Rattle.instruction.specs.Decode.{decodeDef, flagAt}
+use Rattle.instruction.specs.Decode.{decodeDef}
+use Rattle.instruction.specs.Field.{TAG, INDIRECT, indirectOf, tagOf}
 use Rattle.instruction.specs.declared.Instruction.the-variants.{Shift, Generic}
 use Rattle.machine.specs.declared.Machine.{Machine}
 use Rattle.machine.specs.declared.address.Address.the-variants as address
@@ -59,17 +60,17 @@ pub record Located (M : Map) (m : List ℕ) (indirect : Bool) (k : ℕ) (l : Pla
 -- an indirect word without flags
 follow-link : (m : List ℕ) (k w : ℕ) → getD m k 0 ≡ w → w < 16384 → followOf m 16 true k ≡ address.At w 1
 follow-link m k w e b =
-    let quotient : w / 0o40000 ≡ 0 = omega arith in
+    let quotient : w / TAG ≡ 0 = omega arith in
     let remainder : w % 16384 ≡ w = omega arith in
-    let flag : flagAt w 0o40000 ≡ false = rw quotient refl in
-    let first : followOf m 16 true k ≡ followOf m 15 (leb 0o100000 w) (onwards m w) = rw e at (follow-more m 16 k (omega arith)) in
-    first ∙ rw (lt-leb 0o100000 w (omega arith), flag, remainder) (follow-end m 15 w (omega arith))
+    let flag : tagOf w ≡ false = rw quotient refl in
+    let first : followOf m 16 true k ≡ followOf m 15 (indirectOf w) (onwards m w) = rw e at (follow-more m 16 k (omega arith)) in
+    first ∙ rw (lt-leb INDIRECT w (omega arith), flag, remainder) (follow-end m 15 w (omega arith))
 
 -- an indirect word with the tag
-follow-array : (m : List ℕ) (k w x : ℕ) → getD m k 0 ≡ w → leb 0o100000 w ≡ false → flagAt w 0o40000 ≡ true → getD m 0 0 ≡ x
+follow-array : (m : List ℕ) (k w x : ℕ) → getD m k 0 ≡ w → indirectOf w ≡ false → tagOf w ≡ true → getD m 0 0 ≡ x
     → followOf m 16 true k ≡ address.At ((w % 16384 + x) % 16384) 1
 follow-array m k w x e straight tagged ex =
-    let first : followOf m 16 true k ≡ followOf m 15 (leb 0o100000 w) (onwards m w) = rw e at (follow-more m 16 k (omega arith)) in
+    let first : followOf m 16 true k ≡ followOf m 15 (indirectOf w) (onwards m w) = rw e at (follow-more m 16 k (omega arith)) in
     first ∙ rw (straight, tagged, ex) (follow-end m 15 ((w % 16384 + x) % 16384) (omega arith))
 
 link-small : (old a : ℕ) → old < 16384 → suc a < 16384 → old / 16384 * 16384 + pastOf a 0 ≡ suc a

@@ -6,14 +6,14 @@ use Rattle.word.proofs.difference.Tie as tie
 bias-requires : tie.Need-bias-requires
 bias-requires c κs = search needs
 
-add-n : tie.Need-add-n
-add-n c = search needs
+add-raised : tie.Need-add-raised
+add-raised c = search needs
 
 bias-requires-2 : tie.Need-bias-requires-2
 bias-requires-2 c κs = search needs
 
-sub-n : tie.Need-sub-n
-sub-n c = search needs
+sub-raised : tie.Need-sub-raised
+sub-raised c = search needs
 
 add-word : tie.Need-add-word
 add-word c = search needs
@@ -36,9 +36,9 @@ difference-spec =
     tie.close
     (tie.spec
     bias-requires
-    add-n
+    add-raised
     bias-requires-2
-    sub-n
+    sub-raised
     add-word
     sub-word
     cast-word

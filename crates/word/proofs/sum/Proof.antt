@@ -9,8 +9,8 @@ bias-requires c κs = search needs
 bias-requires-2 : tie.Need-bias-requires-2
 bias-requires-2 c κs = search needs
 
-add-n : tie.Need-add-n
-add-n c = search needs
+add-raised : tie.Need-add-raised
+add-raised c = search needs
 
 add-word : tie.Need-add-word
 add-word c = search needs
@@ -28,4 +28,4 @@ returns c = simp (c .overflow .ensures, c .before .bias2 .ensures .0, c .before 
 pub sum-spec : {M : Type 1} → statement M
 sum-spec =
     tie.close
-    (tie.spec bias-requires bias-requires-2 add-n add-word cast-word overflow-requires returns)
+    (tie.spec bias-requires bias-requires-2 add-raised add-word cast-word overflow-requires returns)

@@ -1,3 +1,4 @@
+use mathlib.Core.Path.{refl}
 use native.Mathlib.Omega.{arith}
 use borrow.Author.Needs.{needs}
 use Rattle.machine.proofs.address.base.Statement.{statement}
@@ -10,7 +11,7 @@ add-result : tie.Need-add-result
 add-result c = search needs
 
 returns : tie.Need-returns
-returns c = (simp (c .if1 .taken), omega arith)
+returns c = (simp (c .if1 .taken) refl, omega arith)
 
 returns-2 : tie.Need-returns-2
 returns-2 c = search needs

@@ -28,14 +28,14 @@ slice-write-image c = search needs
 bit-requires : tie.Need-bit-requires
 bit-requires c κs = search needs
 
-past-requires : tie.Need-past-requires
-past-requires c κs = search needs
+advance-requires : tie.Need-advance-requires
+advance-requires c κs = search needs
 
 same-length : tie.Need-same-length
 same-length c = search needs
 
 returns : tie.Need-returns
-returns c = rw (c .past .ensures .0, c .before .bit .ensures .0) (refl, refl)
+returns c = rw (c .advance .ensures, c .before .bit .ensures .0) (refl, refl)
 
 pub increment-spec : {M : Type 1} → statement M
 increment-spec =
@@ -49,6 +49,6 @@ increment-spec =
     mul-image
     slice-write-image
     bit-requires
-    past-requires
+    advance-requires
     same-length
     returns)

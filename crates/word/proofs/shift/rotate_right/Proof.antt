@@ -2,20 +2,20 @@ use borrow.Author.Needs.{needs}
 use Rattle.word.proofs.shift.rotate_right.Statement.{statement}
 use Rattle.word.proofs.shift.rotate_right.Tie as tie
 
-sub-bit : tie.Need-sub-bit
-sub-bit c = search needs
+sub-bit-at : tie.Need-sub-bit-at
+sub-bit-at c = search needs
 
-bit-requires : tie.Need-bit-requires
-bit-requires c κs = search needs
+bit-at-requires : tie.Need-bit-at-requires
+bit-at-requires c κs = search needs
 
-down-requires : tie.Need-down-requires
-down-requires c κs = search needs
+shifted-right-requires : tie.Need-shifted-right-requires
+shifted-right-requires c κs = search needs
 
-sub-up : tie.Need-sub-up
-sub-up c = search needs
+sub-shifted-left : tie.Need-sub-shifted-left
+sub-shifted-left c = search needs
 
-up-requires : tie.Need-up-requires
-up-requires c κs = search needs
+shifted-left-requires : tie.Need-shifted-left-requires
+shifted-left-requires c κs = search needs
 
 add-t7 : tie.Need-add-t7
 add-t7 c = search needs
@@ -29,4 +29,4 @@ returns c = cc
 pub rotate-right-spec : {M : Type 1} → statement M
 rotate-right-spec =
     tie.close
-    (tie.spec sub-bit bit-requires down-requires sub-up up-requires add-t7 cast-t6 returns)
+    (tie.spec sub-bit-at bit-at-requires shifted-right-requires sub-shifted-left shifted-left-requires add-t7 cast-t6 returns)
