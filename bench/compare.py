@@ -3,9 +3,9 @@
 
     python3 bench/compare.py OLD NEW [TIMES]
 
-OLD and NEW are target/bench of two checkouts, built by bench/run.sh; each is run ten times, or TIMES, one after the other. One built
-before there was this script does all its rounds each time. A figure
-is nanoseconds of processor time for a step of the proved machine, or that against the plain one: the median, the least and the largest.
+OLD and NEW are target/bench of two checkouts, built by bench/run.sh; each is run ten times, or TIMES, one after the other. A build from
+before this script ignores `time`: it compares random runs too, and its figure is the median of five rounds. Each figure is a median, with
+the least and the largest in brackets: nanoseconds of processor time for a step of the proved machine, then its ratio to the plain one.
 """
 import re
 import statistics

@@ -1,5 +1,5 @@
 //! The proved machine against one in plain Rust, in one process: first that they agree on random runs, then how long each takes.
-//! With the argument `time` it times one round and no more, for bench/compare.py.
+//! With the argument `time` it times one round of each program and compares nothing, for bench/compare.py.
 
 mod plain;
 mod processor;

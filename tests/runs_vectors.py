@@ -1,18 +1,18 @@
 #!/usr/bin/env python3
-"""Makes what the program runs_vectors reads and must write, from a file of sources (recipes) that were given a meaning and run.
+"""Makes what the program runs_vectors reads and must write, from a file of sources (its lines `recipe`) that were given a meaning and run.
 
     python3 tests/runs_vectors.py VECTORS
 
-crates/runs_vectors/stdin has their count, then for each case the length of its source and its bytes, a line each; then
+crates/runs_vectors/stdin has their count, then for each case a line with the length of its source, its bytes and a newline; then, in decimal,
 A B C, the four sense switches and the budget; the count of words set before the start and for each its address and value;
-the count of moments, the observations of its meaning, and the steps up to each; all decimal, each number followed by one blank or newline.
-crates/runs_vectors/stdout has the lines `moments`, `run` and `word` as the vectors have them. The program stops at each
+the count of moments, the observations of its meaning, and the steps up to each; each number is followed by one blank or newline.
+crates/runs_vectors/stdout has the lines `case`, `moments`, `run`, `word` and `end` as the vectors have them. The program stops at each
 moment and goes on, so that `run` also says that pieces of a run make one run.
 
 That the meaning's steps fit the run is checked here, for each case:
 - the moments begin at 0 and never fall, and the end does not come before the last one;
 - `ends N`: the last moment is N, and the run halts, the HLT being its step N + 1, with budget to spare;
-- `breaks N`, and `goes on`, where N is the budget: the run makes N steps and is spent.
+- `breaks N`: the budget is N; `goes on`: N stands for the budget; in both the run makes N steps and is spent.
 """
 import pathlib
 import sys

@@ -54,7 +54,7 @@ pub fn operate(opcode: u16, v: u16, r: Registers) -> Registers
     }
 }
 
-// CRA to ICA; any other slot changes nothing.
+// The generic instructions that work on A and C; any other slot changes nothing.
 pub fn unary(slot: usize, r: Registers) -> Registers
     ensures { λ s. ⌜ s ≡ unaryOf slot r ⌝ }
 {
@@ -95,7 +95,7 @@ fn any_switch(s: Switches) -> bool
     s.one || s.two || s.three || s.four
 }
 
-// Whether SKP to SLN skips; any other slot does not.
+// Whether an instruction that may skip does; any other slot does not.
 pub fn skips(slot: usize, r: Registers, s: Switches) -> bool
     ensures { λ t. ⌜ t ≡ skipsOf slot r s ⌝ }
 {

@@ -1,4 +1,4 @@
--- The decoder and the instruction table agree, in both directions.
+-- The decoder and the instruction set (`Encodes`) agree, in both directions.
 use Prim.Native.Nat.{ℕ, _<_}
 use mathlib.Core.Path.{_≡_}
 use mathlib.Core.Logic.{_⊎_}
@@ -18,7 +18,7 @@ pub record UnknownExactly (w : ℕ) : Type 0 where
 pub record Agreement : Type 0 where
   -- the word of an instruction decodes to it
   pub encoded : {i : Instruction} {w : ℕ} → Encodes i w → decodeDef w ≡ i
-  -- a word decodes to an instruction that the table gives it, or to none
+  -- a word decodes to an instruction whose word it is, or to none
   pub known : (w : ℕ) → w < 65536 → (decodeDef w ≡ Unknown) ⊎ Encodes (decodeDef w) w
   pub unknown-exactly : (w : ℕ) → w < 65536 → UnknownExactly w
   -- the decoder, lent the table, is the definition

@@ -52,7 +52,7 @@ decodeBy generic w = cond (eqb (opcodeOf w) 0) (cond (eqb (w / TAG) 1) (shiftOf 
 unfoldable pub decodeDef : ℕ → Instruction
 decodeDef w = decodeBy genericOf w
 
--- the decoder, for whatever table it is lent: it looks at one slot. With the table above it is decodeDef (proofs/Rows)
+-- the decoder, for whatever table it is lent: it looks at one slot. With `tableOf` it is decodeDef (proofs/Rows)
 unfoldable pub genericIn : List ℕ → ℕ → Instruction
 genericIn table w = cond (eqb (getD table (slotOf w) 0) w) (Generic (slotOf w)) Unknown
 

@@ -22,7 +22,7 @@ shiftWord kind amount = (kind * 64 + 64 - amount % 64) % 65536
 pub data Encodes : Instruction → ℕ → Type 0 where
   memory : {opcode address : ℕ} {indirect tag sector : Bool} → List·Memᴰ opcode opcodes → address < 512
       → Encodes (Memory opcode indirect tag sector address) (memoryWord opcode indirect tag sector address)
-  -- LDX's word has the tag, which is none of the instruction's (I2, I3)
+  -- the word of LDX has the tag, the instruction has not: it does not add X (I2, I3)
   loadX : {address : ℕ} {indirect sector : Bool} → address < 512
       → Encodes (Memory LDX indirect false sector address) (memoryWord LDX indirect true sector address)
   shift : {kind amount : ℕ} → List·Memᴰ kind shiftKinds → 1 ≤ amount → amount ≤ 15 → Encodes (Shift kind amount) (shiftWord kind amount)

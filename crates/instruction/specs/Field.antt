@@ -1,4 +1,4 @@
--- The fields of a memory-reference word (I1). The flags of an indirect word stand at the same places (I3).
+-- The fields of a memory-reference word (I1). The flags of an indirect word stand at the same places (I3). The tag is for X, the index register, which is word 0 of the image.
 use Prim.Native.Nat.{ℕ, _/_, _%_}
 use mathlib.Core.Bool.{Bool}
 use lib.Dec.{eqb, leb}

@@ -35,7 +35,7 @@ IRS = 0o12
 abbrev pub LDX : ℕ
 LDX = 0o15
 
--- those that go with a tag and without; LDX goes with one only (I2)
+-- all but LDX, which goes with its tag only: these go with one and without (I2)
 abbrev pub opcodes : List ℕ
 opcodes =
     JMP ∷ LDA ∷ ANA ∷ STA ∷ ERA ∷

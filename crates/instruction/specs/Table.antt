@@ -24,7 +24,7 @@ generics =
     row CAR 0o141044 ∷ row CAL 0o141050 ∷ row ICL 0o141140 ∷ row AOA 0o141206 ∷ row ACA 0o141216 ∷ row ICR 0o141240 ∷
     row ICA 0o141340 ∷ []
 
--- each word at its slot; a slot that no instruction has holds 0
+-- each word at its slot; a slot that no instruction has holds 0, the word of HLT, which is looked for at its own slot
 abbrev pub laid : List Row → List ℕ
 laid [] = replicate 64 0
 laid (r ∷ rs) = set (laid rs) (r .slot) (r .word)

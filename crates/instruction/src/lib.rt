@@ -21,7 +21,7 @@ pub mod field;
 pub mod opcode;
 pub mod slot;
 
-// The generic instructions (I10), each at its slot. A slot that none has holds 0.
+// The generic instructions (I10), each at its slot. A slot that none has holds 0, the word of HLT, which is looked for at its own slot.
 const TABLE: [u16; slot::COUNT] = [
     0o000000, // HLT
     0,
@@ -206,7 +206,7 @@ pub fn encode_shift(kind: u16, amount: u16) -> u16
     ((kind as u32 * 64 + 64 - amount as u32 % 64) % 65536) as u16
 }
 
-// The decoder and the encoder agree: this function carries the theorem as its contract.
+// The decoder and the instruction set agree: this function carries the theorem as its contract.
 pub fn table_laws()
     ensures { λ r. ⌜ Agreement ⌝ }
 {}

@@ -18,7 +18,7 @@ add-work-assoc u v w = ap work (add-assoc (u .steps) (v .steps) (w .steps))
 pub add-work-none : (w : Work) → addWork w noWork ≡ w
 add-work-none w = ap work (add-zero (w .steps))
 
-pub none-add-work : (w : Work) → addWork noWork w ≡ w
+none-add-work : (w : Work) → addWork noWork w ≡ w
 none-add-work w = ap work (zero-add (w .steps))
 
 pub run-halted : (n : ℕ) (s : State) → s .machine .halted ≡ true → runFrom n s ≡ idle Halted s

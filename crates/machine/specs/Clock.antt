@@ -5,7 +5,7 @@ use lib.Dec.{ltb}
 use Rattle.machine.specs.declared.Clock.{Clock}
 use Rattle.machine.specs.declared.Request.{Request}
 
--- one step further, in 32 bits (R8)
+-- one step further, in 32 bits (R8). The request says nothing of it yet: it is there for counts that go by who asks
 abbrev pub spend : Request → Clock → Clock
 spend request clock = record { common = (clock .common + 1) % 2 ^ 32 }
 

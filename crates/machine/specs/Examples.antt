@@ -71,13 +71,13 @@ chain (suc n) = (0o200 + n, 0o100201 + n) ∷ chain n
 
 abbrev rows : List (String × Before × After)
 rows =
-    -- the way back (I4, I7)
+    -- the link (I4, I7)
     (
       "JST keeps the two top bits of the word that it stores into",
       from 0 0o1000 ((0o1000, 0o020200) ∷ (0o200, 0o140005) ∷ []) 1,
       to Spent 1 0 0o201 ((0o200, 0o141001) ∷ []),
     ) ∷ (
-      "JST at the last word: the way back is 0",
+      "JST at the last word: the link is 0",
       from 0 0o37777 ((0o37777, 0o020200) ∷ (0o200, 0o177777) ∷ []) 1,
       to Spent 1 0 0o201 ((0o200, 0o140000) ∷ []),
     ) ∷ (
@@ -115,9 +115,9 @@ rows =
       from 0 0o1000 ((0o1000, 0o104200) ∷ (0o217, 0o300) ∷ (0o300, 0o4321) ∷ chain 15) 1,
       to Spent 1 0o4321 0o1001 [],
     ) ∷ (
-      "17 are not: the step fails with 21, and the state stays",
-      from 7 0o1000 ((0o1000, 0o104200) ∷ (0o220, 0o300) ∷ (0o300, 0o4321) ∷ chain 16) 1,
-      to (Failed 21) 0 7 0o1000 [],
+      "17 are not: STA fails with 21, and A, P and the word stay",
+      from 7 0o1000 ((0o1000, 0o110200) ∷ (0o220, 0o300) ∷ (0o300, 0o4321) ∷ chain 16) 1,
+      to (Failed 21) 0 7 0o1000 ((0o300, 0o4321) ∷ []),
     ) ∷
     -- P past the last word (I4, I8); HLT is a step, and halts with the budget's last (R3, R4)
     (

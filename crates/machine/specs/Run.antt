@@ -26,7 +26,7 @@ work n = record { steps = n }
 abbrev pub noWork : Work
 noWork = work 0
 
--- of one step, by the state that it is made from
+-- of one step, by the state that it is made from: the same for all, so far
 abbrev pub workOf : State → Work
 workOf s = work 1
 
@@ -75,7 +75,7 @@ runDef request s =
 abbrev pub endedOf : Request → Clock → Work → Outcome → Machine → Report
 endedOf request clock w o m = record { steps = w .steps; outcome = o; machine = m; clock = spendMany request (w .steps) clock }
 
--- the same of a run as the definition has it (R2)
+-- the answer for a whole run of the definition (R2)
 abbrev pub reportOf : Request → Clock → Ran → Report
 reportOf request clock r = endedOf request clock (r .work) (r .outcome) (r .state .machine)
 

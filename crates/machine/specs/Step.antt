@@ -42,7 +42,7 @@ memoryDef opcode e m image =
     let v = getD image e 0 in
     cond (eqb opcode JMP) (state (atP m e) image)
     (cond (eqb opcode STA) (state (onward m 0) (set image e (m .registers .a)))
-    -- JST: the way back, under the top two bits that stood there (I7)
+    -- JST: the link, under the top two bits that stood there (I7)
     (cond (eqb opcode JST) (state (atP m (pastOf e 0)) (set image e (v / 16384 * 16384 + pastOf (m .p) 0)))
     (cond (eqb opcode CAS) (state (onward m (compareOf (m .registers .a) v)) image)
     (cond (eqb opcode IRS) (incrementDef e m image)

@@ -6,7 +6,7 @@ ghost use Rattle.machine.specs.Address.{baseOf, indexedOf, followOf};
 use crate::MEMORY;
 use instruction::field;
 
-// An address with the number of indirect words passed, or a chain of more than 16.
+// An address with the number of indirect words passed, which is there for what they will cost, or a chain of more than 16.
 pub enum Address {
     At(u16, u16),
     Long,

@@ -67,10 +67,7 @@ fn attempt(name: &[u8], words: usize, p: u16, halted: bool, budget: u32)
     let request = Request { budget };
     let r = machine::run(&mut image[..words], m, clock, request);
     let n = r.machine;
-    let mut kept = kept::same_machine(m, n);
-    if !kept::same_image(&before, &image) {
-        kept = false;
-    }
+    let kept = kept::same_machine(m, n) && kept::same_image(&before, &image);
     print_report(name, r, kept);
 }
 

@@ -18,14 +18,15 @@ mod input;
 fn compile(source: &[u8], image: &mut [u16]) -> u16 {
     let mut scratch = [0u16; 12288];
     let answer = compiler::compile(source, image, &mut scratch);
-    if let Answer::Accepted {
+    let Answer::Accepted {
         entry,
         words: _,
         globals: _,
-    } = answer {
-        return entry;
-    }
-    0
+    } = answer
+    else {
+        return 0;
+    };
+    entry
 }
 
 // A source's entry, and where the next number starts.

@@ -24,7 +24,7 @@ negative w = leb SIGN w
 abbrev pub biased : ℕ → ℕ
 biased w = (w + SIGN) % 65536
 
--- a signed value, given plus 65536, is below -32768 or above 32767 (I9)
+-- whether a signed value is below -32768 or above 32767 (I9); it is given plus 65536
 abbrev pub overflows : ℕ → Bool
 overflows raised = ltb raised 32768 || leb 98304 raised
 

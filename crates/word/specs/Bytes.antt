@@ -24,5 +24,6 @@ carOf w = pair (highByte w) 0
 abbrev pub icrOf : ℕ → ℕ
 icrOf w = pair (lowByte w) 0
 
+-- the same as CAL
 abbrev pub iclOf : ℕ → ℕ
 iclOf w = pair 0 (lowByte w)

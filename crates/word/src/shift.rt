@@ -134,7 +134,7 @@ fn rotate_left(amount: u16, w: u16) -> Flagged
     }
 }
 
-// The word w, shifted, with C before as c.
+// The word w shifted; c is C before it, and stays where nothing is shifted.
 pub fn shift(kind: u16, amount: u16, w: u16, c: bool) -> Flagged
     ensures { λ r. ⌜ r ≡ shiftOf kind amount w c ⌝ }
 {
