@@ -1,32 +1,11 @@
 -- The listing (group P of docs/REFERENCE.md), as bytes.
-use Prim.Native.Nat.{ℕ, zero, suc, _+_, _/_, _%_}
+use Prim.Native.Nat.{ℕ, suc}
 use mathlib.Core.List.{List, [], _∷_, _++_}
-use lib.Dec.{ltb}
 use lib.ListN.{take, drop}
-use Rattle.prelude.specs.Choice.{whether}
+use Rattle.digits.specs.Digits.{octal, decimal, newline}
 use Rattle.source.specs.Bytes.{bytes}
 use Rattle.compilation.specs.Compile.{Result}
 use Rattle.layout.specs.Addresses.{firstGlobal, firstCode}
-
--- so many of a number's octal digits, from the highest
-unfoldable pub digits : ℕ → ℕ → List ℕ
-digits zero n = []
-digits (suc k) n = digits k (n / 8) ++ ((48 + n % 8) ∷ [])
-
--- six of them (P3)
-abbrev pub octal : ℕ → List ℕ
-octal n = digits 6 n
-
--- a number in decimal, with as many digits as it has; the fuel is more than that (P3)
-unfoldable pub decimalBy : ℕ → ℕ → List ℕ
-decimalBy zero n = []
-decimalBy (suc k) n = whether (ltb n 10) (λ _. []) (λ _. decimalBy k (n / 10)) ++ ((48 + n % 10) ∷ [])
-
-abbrev pub decimal : ℕ → List ℕ
-decimal n = decimalBy 20 n
-
-abbrev pub newline : List ℕ
-newline = 10 ∷ []
 
 -- the line of each word, from an address on (P2)
 unfoldable pub wordLines : List ℕ → ℕ → List ℕ → List ℕ

@@ -33,7 +33,7 @@ use Rattle.memory_map.proofs.Sectors.{pool-ends}
 use Rattle.layout.specs.Addresses.{memoryWords}
 
 -- a second reading does what the first found
-again : {A : Type 0} {done : A → Type 0} {kept : Type 0} {part : Part} {g : Got A} (t : A) (n : ℕ) → g ≡ got t n → Reads done kept part g → done t
+pub again : {A : Type 0} {done : A → Type 0} {kept : Type 0} {part : Part} {g : Got A} (t : A) (n : ℕ) → g ≡ got t n → Reads done kept part g → done t
 again t n e (Reads.read {t = u} q p d) = let same : u ≡ t = cc in rw same at d
 again t n e (Reads.fails q p w) = absurd (never e q)
 
@@ -60,7 +60,7 @@ module _ (r : ProgramAnswer) {answer : Answer} (e : answer ≡ answeredOf r) whe
   answer-counted q = e ∙ ap (λ p. answeredBy p r) q
 
 -- a table with room for 512 names
-on-table : (source table : List ℕ) → tableWords ≤ length table → programOn source table ≡ programIn source
+pub on-table : (source table : List ℕ) → tableWords ≤ length table → programOn source table ≡ programIn source
 unfolding programOn
 on-table source table h = rw (le-leb _ _ h)
 
@@ -71,7 +71,7 @@ module _ (source : List ℕ) (short : length source ≤ 8192) where
   unfolding parseProgram programIn
   same = rw (le-leb _ _ short)
 
-  result : compileDef source ≡ resultOf (programIn source)
+  pub result : compileDef source ≡ resultOf (programIn source)
   unfolding compileDef
   result = ap resultOf same
 

@@ -44,8 +44,8 @@ pub enum Answer {
     },
 }
 
-// All zeros.
-fn clear(words: &mut [u16])
+// Sets every word to 0.
+pub fn clear(words: &mut [u16])
     ensures { λ _. ⌜ now (words .exit) ≡ replicate (length (now (words .entry))) 0 ⌝ }
 {
     let mut i = 0;

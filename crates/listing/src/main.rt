@@ -1,13 +1,5 @@
 // The listing program: reads a source, compiles it onto zeros, and prints the listing (P1). Its stored output is that of the first program (K1).
 use libc::STDIN_FILENO;
-use libc::STDOUT_FILENO;
-
-// The first bytes of a text.
-fn print(text: &[u8], size: usize) {
-    if size <= text.len() {
-        io::write_all(STDOUT_FILENO, &text[0..size]);
-    }
-}
 
 fn main() {
     let mut image = [0u16; 16384];
@@ -18,5 +10,5 @@ fn main() {
     let answer = compiler::compile(&text[..n], &mut image, &mut scratch);
     let mut out = [0u8; 262144];
     let size = listing_lines::lines(answer, &image, &mut out);
-    print(&out, size);
+    output::print_start(&out, size);
 }

@@ -1,2 +1,2 @@
--- Laws of texts that are written.
+-- Laws of the lines of words and of the whole listing.
 pub mod Laws

@@ -1,44 +1,17 @@
 -- The listing as a text, and what is written of it.
-use Prim.Native.Nat.{ℕ, zero, suc, _+_, _/_, _%_, _≤_}
+use Prim.Native.Nat.{ℕ}
 use mathlib.Core.Path.{_≡_}
-use mathlib.Core.List.{List, [], _∷_, _++_}
-use lib.Dec.{ltb}
+use mathlib.Core.List.{List, _++_}
 use lib.ListN.{length}
 use lib.Seq.{sets}
-use Rattle.prelude.specs.Choice.{whether}
+use Rattle.digits.specs.Digits.{octal, decimal}
 use Rattle.source.specs.Bytes.{bytes}
 use Rattle.tree.specs.Tree.{Program}
 use Rattle.compilation.specs.Compile.{Result}
-use Rattle.compilation.specs.Listing.{octal, decimal, line, listingDef}
+use Rattle.compilation.specs.Listing.{line, listingDef}
 use Rattle.compiler.specs.Compile.{answerOf, imageAfter}
 use Rattle.compiler.specs.declared.Answer.{Answer}
 use Rattle.compiler.specs.declared.Answer.the-variants.{Accepted, Failed}
-
--- no listing is longer: 16 bytes for each of twice 65535 words, and five lines
-abbrev pub limit : ℕ
-limit = 4194304
-
--- a text is written from an offset on, and the offset after it is answered
-pub record Wrote (before after : List ℕ) (at next : ℕ) (text : List ℕ) : Type 0 where
-  pub written : after ≡ sets before at text
-  pub ends : next ≡ at + length text
-
--- the same of a text of so many bytes, and of one of no more
-abbrev pub WroteJust : ℕ → List ℕ → List ℕ → ℕ → ℕ → List ℕ → Type 0
-WroteJust n before after at next text = Wrote before after at next text × (next ≡ at + n)
-
-abbrev pub WroteUpTo : ℕ → List ℕ → List ℕ → ℕ → ℕ → List ℕ → Type 0
-WroteUpTo n before after at next text = Wrote before after at next text × (next ≤ at + n)
-
--- so many of a number's lowest digits in a base
-unfoldable pub digitsBy : ℕ → ℕ → ℕ → List ℕ
-digitsBy base zero n = []
-digitsBy base (suc k) n = digitsBy base k (n / base) ++ ((48 + n % base) ∷ [])
-
--- how many digits a number has in decimal, up to so many
-unfoldable pub lengthBy : ℕ → ℕ → ℕ
-lengthBy zero n = 0
-lengthBy (suc k) n = whether (ltb n 10) (λ _. 1) (λ _. suc (lengthBy k (n / 10)))
 
 -- the listing's parts, as in `listingDef`: a word's line (P2),
 unfoldable pub wordLine : List ℕ → ℕ → ℕ → List ℕ

@@ -4,20 +4,13 @@ use case_input::part_end;
 use libc::STDIN_FILENO;
 use libc::STDOUT_FILENO;
 
-// The first bytes of a text.
-fn print(text: &[u8], size: usize) {
-    if size <= text.len() {
-        io::write_all(STDOUT_FILENO, &text[0..size]);
-    }
-}
-
 fn listing(source: &[u8]) {
     let mut image = [0u16; 16384];
     let mut scratch = [0u16; 12288];
     let answer = compiler::compile(source, &mut image, &mut scratch);
     let mut out = [0u8; 262144];
     let size = listing_lines::lines(answer, &image, &mut out);
-    print(&out, size);
+    output::print_start(&out, size);
 }
 
 // The case at `at`: its length and its bytes. Answers where the next one starts.
@@ -25,9 +18,9 @@ fn case(text: &[u8], at: usize, number: u32) -> usize {
     let size = parse_number(text, at);
     let from = size.next;
     let end = part_end(text, from, size.value);
-    io::write_all(STDOUT_FILENO, b"case ");
+    output::print(b"case ");
     io::print_decimal(STDOUT_FILENO, number as u64);
-    io::write_all(STDOUT_FILENO, b"\n");
+    output::print(b"\n");
     if from <= end {
         listing(&text[from..end]);
     }

@@ -11,19 +11,11 @@ use machine::Clock;
 use machine::Machine;
 use machine::Outcome;
 use machine::Request;
+use output::print;
+use output::print_start;
 
 // What every word of the lent slices holds before a case.
 const MARK: u16 = 7;
-
-fn print(text: &[u8]) {
-    io::write_all(STDOUT_FILENO, text);
-}
-
-fn print_start(text: &[u8], size: usize) {
-    if size <= text.len() {
-        print(&text[0..size]);
-    }
-}
 
 fn all_are(words: &[u16], value: u16) -> bool {
     let mut i = 0;

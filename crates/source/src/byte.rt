@@ -1,8 +1,18 @@
-// Bytes of the source and of names.
+// Bytes: a range of them, those of the source and of names.
 use crate::Token;
 ghost use mathlib.Core.Path.{_≡_};
 ghost use lib.ListN.{getD};
+ghost use Rattle.prelude.specs.Choice.{between};
 ghost use Rattle.source.specs.Tokens.{nameOf};
+
+pub fn is_between(low: u8, high: u8, b: u8) -> bool
+    ensures { λ r. ⌜ r ≡ between low high b ⌝ }
+{
+    if b < low {
+        return false;
+    }
+    b <= high
+}
 
 // The byte at an offset, or 0 past the end.
 pub fn byte_at(source: &[u8], at: usize) -> u8

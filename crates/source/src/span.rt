@@ -2,9 +2,9 @@
 ghost use mathlib.Core.Path.{_≡_};
 ghost use Prim.Native.Nat.{_+_};
 ghost use lib.ListN.{drop};
-ghost use Rattle.prelude.specs.Choice.{between};
 ghost use Rattle.source.specs.Bytes.{isLetterOrDigit, isBlank, span};
 ghost use Rattle.source.specs.Classes.{passes};
+use crate::byte::is_between;
 
 pub enum Class {
     Blank,
@@ -12,15 +12,6 @@ pub enum Class {
     OctalDigit,
     Letter,
     LetterOrDigit,
-}
-
-fn is_between(low: u8, high: u8, b: u8) -> bool
-    ensures { λ r. ⌜ r ≡ between low high b ⌝ }
-{
-    if b < low {
-        return false;
-    }
-    b <= high
 }
 
 fn is_letter_or_digit(b: u8) -> bool

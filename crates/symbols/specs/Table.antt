@@ -62,6 +62,11 @@ entryAt table at =
 unfoldable pub rowAt : List ℕ → ℕ → Name × Entry
 rowAt table at = (unpack (packedAt table at), entryAt table at)
 
+-- the row of a number, counted from 0; past the table's end no characters, and nothing known
+unfoldable pub rowOf : List ℕ → ℕ → Name × Entry
+rowOf table i =
+    whether (ltb i (length table / entryWords)) (λ _. rowAt table (entryWords * i)) (λ _. ([], record { level = Level.outer; symbol = Symbol.unknown }))
+
 -- THE LIVE NAMES of a table's first so many entries, newest first (D16)
 unfoldable pub entriesOf : ℕ → List ℕ → Names
 entriesOf zero table = []

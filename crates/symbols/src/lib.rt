@@ -7,7 +7,7 @@ ghost use Rattle.source.specs.Tokens.{nameOf};
 ghost use Rattle.tree.specs.Symbols.{isX, symbolOf, nextId, isTaken};
 ghost use Rattle.symbols.specs.Trees.{treeId, treeSymbol};
 ghost use Rattle.symbols.specs.Packing.{samePacked, packedAt, pair, packOf, unpack};
-ghost use Rattle.symbols.specs.Table.{entryWords, numberOf, dataOf, levelOf, entryAt, liveNames, Newest, Entered};
+ghost use Rattle.symbols.specs.Table.{entryWords, numberOf, dataOf, levelOf, entryAt, rowOf, liveNames, Newest, Entered};
 use source::Token;
 use source::byte::name_byte;
 
@@ -15,7 +15,7 @@ pub mod lookup;
 
 // Words of an entry: the packed name, the level, and a tag, a number and a value that give the symbol.
 // The level is 0 for a global, and 1 more than its procedure's number for a local.
-const ENTRY: usize = 7;
+pub const ENTRY: usize = 7;
 
 // The tags of the symbols; UNKNOWN and any other are a name that nothing is known of.
 const INTEGER: u16 = 1;
@@ -85,6 +85,12 @@ pub struct Data {
     pub tag: u16,
     pub number: u16,
     pub value: u16,
+}
+
+// A row of the table: a name, and what it stands for.
+pub struct Row {
+    pub name: Packed,
+    pub symbol: Symbol,
 }
 
 // Two characters of a name in a word.
@@ -228,6 +234,31 @@ fn symbol_at(table: &[u16], at: usize) -> Symbol
             accumulator: true,
         },
         _ => Symbol::Unknown,
+    }
+}
+
+// The row of a number, counted from 0, so that a table can be read in order of declaration; past its end no characters, and nothing known.
+pub fn row_at(table: &[u16], i: usize) -> Row
+    ensures { λ r. ⌜ (unpack (r .name) ≡ rowOf (now (table .entry)) i .0) × (treeSymbol (r .symbol) ≡ rowOf (now (table .entry)) i .1 .symbol) ⌝ }
+{
+    if table.len() / ENTRY <= i {
+        return Row {
+            name: Packed {
+                one: 0,
+                two: 0,
+                three: 0,
+            },
+            symbol: Symbol::Unknown,
+        };
+    }
+    let at = ENTRY * i;
+    Row {
+        name: Packed {
+            one: table[at],
+            two: table[at + 1],
+            three: table[at + 2],
+        },
+        symbol: symbol_at(table, at),
     }
 }
 

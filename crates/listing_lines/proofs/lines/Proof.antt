@@ -1,4 +1,6 @@
-use Rattle.listing_lines.proofs.Laws.{then, whole-accepted, whole-failed}
+use native.Mathlib.Omega.{arith}
+use Rattle.digits.proofs.Laws.{then}
+use Rattle.listing_lines.proofs.Laws.{whole-accepted, whole-failed}
 use borrow.Author.Needs.{needs}
 use Rattle.listing_lines.proofs.lines.Statement.{statement}
 use Rattle.listing_lines.proofs.lines.Tie as tie
@@ -39,15 +41,16 @@ returns c =
     let at-put-words = at-put-words2 .before .before .before .before .before in
     let at-put-counts = at-put-words .before .before .before .before .before in
     let at-put-result = at-put-counts .before .before .before .before in
-    let at-answer = at-put-result .before .before .before in
-    whole-accepted _ (at-answer .answer .given .1)
-    (then (at-put-result .put-result .ensures .0) (then (at-put-counts .put-counts .ensures .0) (then (at-put-words .put-words .ensures .0) (at-put-words2 .put-words2 .ensures .0))))
+    let at-known = at-put-result .before .before in
+    let known = at-known .known-told .given in
+    whole-accepted _ (at-known .before .answer .given .1) (omega (arith, known)) (omega (arith, known))
+    (then (at-put-result .put-result .ensures) (then (at-put-counts .put-counts .ensures) (then (at-put-words .put-words .ensures) (at-put-words2 .put-words2 .ensures))))
 
 same-length-2 : tie.Need-same-length-2
 same-length-2 c = search needs
 
 returns-2 : tie.Need-returns-2
-returns-2 c = whole-failed _ (c .before .before .before .before .before .answer2 .given .1) (c .before .before .put-result2 .ensures .0)
+returns-2 c = whole-failed _ (c .before .before .before .before .before .answer2 .given .1) (c .before .before .put-result2 .ensures)
 
 pub lines-spec : {M : Type 1} → statement M
 lines-spec =

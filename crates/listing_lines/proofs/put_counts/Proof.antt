@@ -1,7 +1,5 @@
-use native.Mathlib.Omega.{arith}
+use Rattle.digits.proofs.Laws.{then}
 use Rattle.listing_lines.specs.Texts.{countLines}
-use Rattle.source.specs.Bytes.{bytes}
-use Rattle.listing_lines.proofs.Laws.{then, octal-line}
 use borrow.Author.Needs.{needs}
 use Rattle.listing_lines.proofs.put_counts.Statement.{statement}
 use Rattle.listing_lines.proofs.put_counts.Tie as tie
@@ -33,8 +31,7 @@ returns c =
     let at-put-number2 = c .before .before in
     let at-put-number = at-put-number2 .before .before .before .before .before in
     let at-put-line = at-put-number .before .before .before .before .before in
-    let entry = at-put-line .before .before .before .before in
-    (then (octal-line (bytes "entry=") (entry .args .entry) (at-put-line .put-line .ensures .0)) (then (at-put-number .put-number .ensures .0) (at-put-number2 .put-number2 .ensures .0)), omega arith)
+    then (at-put-line .put-line .ensures) (then (at-put-number .put-number .ensures) (at-put-number2 .put-number2 .ensures))
 
 pub put-counts-spec : {M : Type 1} → statement M
 put-counts-spec =

@@ -1,24 +1,27 @@
-use native.Mathlib.Omega.{arith}
-use Rattle.listing_lines.proofs.Laws.{number-line}
+use Rattle.digits.proofs.Laws.{then}
 use borrow.Author.Needs.{needs}
 use Rattle.listing_lines.proofs.put_number.Statement.{statement}
 use Rattle.listing_lines.proofs.put_number.Tie as tie
 
-decimal-length-requires : tie.Need-decimal-length-requires
-decimal-length-requires c κs = search needs
+put-text-requires : tie.Need-put-text-requires
+put-text-requires c κs = search needs
 
-put-line-requires : tie.Need-put-line-requires
-put-line-requires c κs = search needs
+put-decimal-requires : tie.Need-put-decimal-requires
+put-decimal-requires c κs = search needs
+
+put-byte-requires : tie.Need-put-byte-requires
+put-byte-requires c κs = search needs
 
 same-length : tie.Need-same-length
 same-length c = search needs
 
 returns : tie.Need-returns
 returns c =
-    let at-decimal-length = c .before .before .before in
-    let entry = at-decimal-length .before .before .before .before in
-    (number-line (entry .args .name .now) (entry .args .n) (at-decimal-length .decimal-length .ensures .0) (c .before .before .put-line .ensures .0), omega arith)
+    let at-put-byte = c .before .before in
+    let at-put-decimal = at-put-byte .before .before .before .before in
+    let at-put-text = at-put-decimal .before .before .before .before in
+    then (at-put-text .put-text .ensures) (then (at-put-decimal .put-decimal .ensures) (at-put-byte .put-byte .ensures))
 
 pub put-number-spec : {M : Type 1} → statement M
 put-number-spec =
-    tie.close (tie.spec decimal-length-requires put-line-requires same-length returns)
+    tie.close (tie.spec put-text-requires put-decimal-requires put-byte-requires same-length returns)

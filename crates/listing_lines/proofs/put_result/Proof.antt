@@ -1,6 +1,5 @@
-use native.Mathlib.Omega.{arith}
+use Rattle.digits.proofs.Laws.{then}
 use Rattle.listing_lines.specs.Texts.{resultLines}
-use Rattle.listing_lines.proofs.Laws.{then}
 use borrow.Author.Needs.{needs}
 use Rattle.listing_lines.proofs.put_result.Statement.{statement}
 use Rattle.listing_lines.proofs.put_result.Tie as tie
@@ -22,7 +21,10 @@ same-length c = search needs
 
 returns : tie.Need-returns
 unfolding resultLines
-returns c = (then (c .before .before .before .before .before .before .before .put-number .ensures .0) (c .before .before .put-number2 .ensures .0), omega arith)
+returns c =
+    let at-put-number2 = c .before .before in
+    let at-put-number = at-put-number2 .before .before .before .before .before in
+    then (at-put-number .put-number .ensures) (at-put-number2 .put-number2 .ensures)
 
 pub put-result-spec : {M : Type 1} → statement M
 put-result-spec =

@@ -1,7 +1,5 @@
-use native.Mathlib.Omega.{arith}
+use Rattle.digits.proofs.Laws.{then}
 use Rattle.listing_lines.specs.Texts.{wordLine}
-use Rattle.source.specs.Bytes.{bytes}
-use Rattle.listing_lines.proofs.Laws.{then, octal-line, octal-number}
 use borrow.Author.Needs.{needs}
 use Rattle.listing_lines.proofs.put_word.Statement.{statement}
 use Rattle.listing_lines.proofs.put_word.Tie as tie
@@ -9,8 +7,8 @@ use Rattle.listing_lines.proofs.put_word.Tie as tie
 put-text-requires : tie.Need-put-text-requires
 put-text-requires c κs = search needs
 
-put-digits-requires : tie.Need-put-digits-requires
-put-digits-requires c κs = search needs
+put-octal-requires : tie.Need-put-octal-requires
+put-octal-requires c κs = search needs
 
 slice-aggregate-put-line : tie.Need-slice-aggregate-put-line
 slice-aggregate-put-line c = search needs
@@ -25,18 +23,16 @@ returns : tie.Need-returns
 unfolding wordLine
 returns c =
     let at-put-line = c .before .before in
-    let at-put-digits = at-put-line .before .before .before .before .before in
-    let at-put-text = at-put-digits .before .before .before .before in
-    let entry = at-put-text .before .before .before .before in
-    let n = at-put-text .put-text .ensures .ends in
-    (then (at-put-text .put-text .ensures) (then (octal-number (entry .args .address) (at-put-digits .put-digits .ensures .0)) (octal-line (bytes ":") (entry .args .word) (at-put-line .put-line .ensures .0))), omega (arith, n))
+    let at-put-octal = at-put-line .before .before .before .before .before in
+    let at-put-text = at-put-octal .before .before .before .before in
+    then (at-put-text .put-text .ensures) (then (at-put-octal .put-octal .ensures) (at-put-line .put-line .ensures))
 
 pub put-word-spec : {M : Type 1} → statement M
 put-word-spec =
     tie.close
     (tie.spec
     put-text-requires
-    put-digits-requires
+    put-octal-requires
     slice-aggregate-put-line
     put-line-requires
     same-length
