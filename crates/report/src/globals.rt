@@ -157,7 +157,8 @@ fn put_array(
 }
 
 fn put_row(out: &mut [u8], at: usize, row: Row, array: usize, image: &[u16]) -> usize
-    ensures { λ r. ⌜ Wrote (now (out .entry)) (now (out .exit)) at r (symbolText (now (image .entry)) (unpack (row .name)) array (treeSymbol (row .symbol))) ⌝ }
+    ensures { λ r. ⌜ Wrote (now (out .entry)) (now (out .exit)) at r
+        (symbolText (now (image .entry)) (unpack (row .name)) array (treeSymbol (row .symbol))) ⌝ }
 {
     let name = row.name;
     let symbol = row.symbol;

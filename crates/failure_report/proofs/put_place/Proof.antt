@@ -49,21 +49,6 @@ put-words-requires c κs = search needs
 put-byte-requires : tie.Need-put-byte-requires
 put-byte-requires c κs = search needs
 
-same-length : tie.Need-same-length
-same-length c =
-    let at-put-byte = c .before .before in
-    let at-put-words = at-put-byte .before .before .before .before in
-    let at-put-text4 = at-put-words .before .before .before .before in
-    let at-put-decimal3 = at-put-text4 .before .before .before .before .before in
-    let at-put-text3 = at-put-decimal3 .before .before .before .before in
-    let at-put-decimal2 = at-put-text3 .before .before .before .before .before in
-    let at-column = at-put-decimal2 .before in
-    let at-put-text2 = at-column .before .before .before .before in
-    let at-put-decimal = at-put-text2 .before .before .before .before .before in
-    let at-line = at-put-decimal .before in
-    let at-put-text = at-line .before .before .before .before in
-    kept (then (at-put-text .put-text .ensures) (then (at-put-decimal .put-decimal .ensures) (then (at-put-text2 .put-text2 .ensures) (then (at-put-decimal2 .put-decimal2 .ensures) (then (at-put-text3 .put-text3 .ensures) (then (at-put-decimal3 .put-decimal3 .ensures) (then (at-put-text4 .put-text4 .ensures) (then (at-put-words .put-words .ensures) (at-put-byte .put-byte .ensures)))))))))
-
 returns : tie.Need-returns
 unfolding placeText
 returns c =
@@ -79,6 +64,9 @@ returns c =
     let at-line = at-put-decimal .before in
     let at-put-text = at-line .before .before .before .before in
     rw (at-line .line .ensures, at-column .column .ensures) at (then (at-put-text .put-text .ensures) (then (at-put-decimal .put-decimal .ensures) (then (at-put-text2 .put-text2 .ensures) (then (at-put-decimal2 .put-decimal2 .ensures) (then (at-put-text3 .put-text3 .ensures) (then (at-put-decimal3 .put-decimal3 .ensures) (then (at-put-text4 .put-text4 .ensures) (then (at-put-words .put-words .ensures) (at-put-byte .put-byte .ensures)))))))))
+
+same-length : tie.Need-same-length
+same-length c = kept (returns c)
 
 pub put-place-spec : {M : Type 1} → statement M
 put-place-spec =

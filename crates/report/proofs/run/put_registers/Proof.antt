@@ -43,19 +43,6 @@ put-signed-requires-3 c κs = search needs
 put-byte-requires : tie.Need-put-byte-requires
 put-byte-requires c κs = search needs
 
-same-length : tie.Need-same-length
-same-length c =
-    let at-put-byte = c .before .before in
-    let at-put-signed3 = at-put-byte .before .before .before .before in
-    let at-put-text4 = at-put-signed3 .before .before .before .before in
-    let at-put-bit = at-put-text4 .before .before .before .before .before in
-    let at-put-text3 = at-put-bit .before .before .before .before in
-    let at-put-signed2 = at-put-text3 .before .before .before .before .before in
-    let at-put-text2 = at-put-signed2 .before .before .before .before in
-    let at-put-signed = at-put-text2 .before .before .before .before .before in
-    let at-put-text = at-put-signed .before .before .before .before in
-    kept (then (at-put-text .put-text .ensures) (then (at-put-signed .put-signed .ensures) (then (at-put-text2 .put-text2 .ensures) (then (at-put-signed2 .put-signed2 .ensures) (then (at-put-text3 .put-text3 .ensures) (then (at-put-bit .put-bit .ensures) (then (at-put-text4 .put-text4 .ensures) (then (at-put-signed3 .put-signed3 .ensures) (at-put-byte .put-byte .ensures)))))))))
-
 returns : tie.Need-returns
 unfolding registersText
 returns c =
@@ -69,6 +56,9 @@ returns c =
     let at-put-signed = at-put-text2 .before .before .before .before .before in
     let at-put-text = at-put-signed .before .before .before .before in
     (then (at-put-text .put-text .ensures) (then (at-put-signed .put-signed .ensures) (then (at-put-text2 .put-text2 .ensures) (then (at-put-signed2 .put-signed2 .ensures) (then (at-put-text3 .put-text3 .ensures) (then (at-put-bit .put-bit .ensures) (then (at-put-text4 .put-text4 .ensures) (then (at-put-signed3 .put-signed3 .ensures) (at-put-byte .put-byte .ensures)))))))))
+
+same-length : tie.Need-same-length
+same-length c = kept (returns c)
 
 pub put-registers-spec : {M : Type 1} → statement M
 put-registers-spec =
