@@ -93,6 +93,29 @@ fn subtract(m: &mut Machine, v: u16) {
     m.a = m.a.wrapping_sub(v);
 }
 
+/// A and the low 15 bits of B as one signed number.
+fn double(m: &Machine) -> i32 {
+    m.a as i16 as i32 * 32768 + (m.b & !SIGN) as i32
+}
+
+fn multiply(m: &mut Machine, v: u16) {
+    let product = m.a as i16 as i32 * v as i16 as i32;
+    m.a = (product >> 15) as u16;
+    m.b = product as u16 & !SIGN;
+}
+
+fn divide(m: &mut Machine, v: u16) {
+    let (dividend, divisor) = (double(m), v as i16 as i32);
+    match dividend.checked_div(divisor).and_then(|quotient| i16::try_from(quotient).ok()) {
+        Some(quotient) => {
+            m.a = quotient as u16;
+            m.b = (dividend % divisor) as u16;
+            m.c = false;
+        }
+        None => m.c = true,
+    }
+}
+
 fn indexed(image: &Image, at: u16, tag: bool) -> u16 {
     if tag { at.wrapping_add(image[0]) & ADDRESS } else { at }
 }
@@ -116,7 +139,7 @@ fn memory(image: &mut Image, m: &mut Machine, w: u16) -> Result<(), u32> {
     let code = w >> 10 & 15;
     let tag = w & 0o40000 != 0;
     let ldx = code == 0o15 && tag;
-    if code > 0o12 && !ldx {
+    if (0o13..=0o15).contains(&code) && !ldx {
         return Err(20);
     }
     let sector = if w & 0o1000 != 0 { m.p & 0o37000 } else { 0 };
@@ -151,6 +174,8 @@ fn memory(image: &mut Image, m: &mut Machine, w: u16) -> Result<(), u32> {
                 return Ok(());
             }
         }
+        0o16 => multiply(m, v),
+        0o17 => divide(m, v),
         _ => image[0] = v,
     }
     skip(m, 0);
@@ -164,6 +189,15 @@ fn shift(m: &mut Machine, w: u16) -> Result<(), u32> {
     }
     let a = m.a;
     let (c, a) = match w >> 6 {
+        0o401 if n == 15 => {
+            m.b = a & !SIGN;
+            (m.c, (a as i16 >> 15) as u16)
+        }
+        0o411 if n == 15 => {
+            let moved = double(m);
+            m.b = 0;
+            (i16::try_from(moved).is_err(), moved as u16)
+        }
         0o404 => (a >> (n - 1) & 1 == 1, a >> n),
         0o405 => (a >> (n - 1) & 1 == 1, (a as i16 >> n) as u16),
         0o406 => (a >> (n - 1) & 1 == 1, a.rotate_right(n)),
@@ -227,6 +261,7 @@ fn unary(m: &mut Machine, w: u16) -> Result<(), u32> {
         0o141216 => add(m, m.c as u16),
         0o141240 => m.a = a << 8,
         0o141340 => m.a = a.rotate_left(8),
+        0o000201 => (m.a, m.b) = (m.b, m.a),
         _ => return Err(20),
     }
     skip(m, 0);

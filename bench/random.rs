@@ -5,13 +5,16 @@ use crate::plain::{Machine, WORDS};
 pub const IMAGES: u32 = 4_000;
 pub const RUNS: u32 = 25;
 
-const GENERICS: [u16; 31] = [
+const GENERICS: [u16; 32] = [
     0o000000, 0o100000, 0o101000, 0o100001, 0o101001, 0o101020, 0o101010, 0o101004, 0o101002, 0o101036, 0o100036,
     0o100040, 0o101040, 0o100400, 0o101400, 0o100100, 0o101100, 0o140040, 0o140401, 0o140407, 0o140024, 0o140100,
     0o140500, 0o140320, 0o141044, 0o141050, 0o141140, 0o141206, 0o141216, 0o141240, 0o141340,
+    0o000201,
 ];
 const SHIFTS: [u16; 6] = [0o040400, 0o040500, 0o040600, 0o041400, 0o041500, 0o041600];
-const CODES: [u16; 10] = [0o1, 0o2, 0o3, 0o4, 0o5, 0o6, 0o7, 0o10, 0o11, 0o12];
+/// LRS and LLS by 15.
+const LONG_SHIFTS: [u16; 2] = [0o040161, 0o041161];
+const CODES: [u16; 12] = [0o1, 0o2, 0o3, 0o4, 0o5, 0o6, 0o7, 0o10, 0o11, 0o12, 0o16, 0o17];
 
 /// Xorshift with a fixed seed: each run of the bench sees the same numbers.
 pub struct Random(u64);
@@ -46,16 +49,17 @@ impl Random {
 
     fn memory(&mut self) -> u16 {
         let rest = self.word() & !0o36000;
-        match self.below(11) {
+        match self.below(13) {
             0 => rest | 0o72000,
             _ => rest | self.pick(&CODES) << 10,
         }
     }
 
     fn instruction(&mut self) -> u16 {
-        match self.below(8) {
+        match self.below(9) {
             0 | 1 => self.pick(&GENERICS),
             2 => self.pick(&SHIFTS) + 49 + self.below(15) as u16,
+            3 => self.pick(&LONG_SHIFTS),
             _ => self.memory(),
         }
     }

@@ -300,8 +300,10 @@ def main():
         return
     rules = numbered(TOP / "docs/REFERENCE.md", r"[A-Z]\d+")
     clauses = numbered(TOP / "docs/DEMANDS.md", r"\d[a-z]")
+    # A request is cited by its number too: docs/changes has its note.
+    requests = {path.stem for path in (TOP / "docs/changes").glob("L*.md")}
     check_gaps(rules)
-    count = check_citations(rules | clauses)
+    count = check_citations(rules | clauses | requests)
     check_links()
     covered = set()
     for place, number, defined, fails in rows():

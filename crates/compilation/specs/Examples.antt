@@ -82,6 +82,18 @@ every-operation :
 unfolding computed
 every-operation = refl
 
+-- MPY A, LLS 15; LRS 15, DIV A; LRS 15, DIV A, IAB; and each with T[A], whose LDX is ahead of all (W18)
+every-product :
+    wordsOf ".BEGIN .INTEGER A; .ARRAY T[2]; @ = A * A / A .MOD A * T[A] / T[A] .MOD T[A] .END"
+    ≡ (
+      0o1000,
+      0 ∷ 0o077777 ∷ [],
+      0o004200 ∷ 0o034200 ∷ 0o041161 ∷ 0o040161 ∷ 0o036200 ∷ 0o040161 ∷ 0o036200 ∷ 0o000201 ∷
+          0o072200 ∷ 0o134201 ∷ 0o041161 ∷ 0o072200 ∷ 0o040161 ∷ 0o136201 ∷ 0o072200 ∷ 0o040161 ∷ 0o136201 ∷ 0o000201 ∷ 0o000000 ∷ [],
+    )
+unfolding computed
+every-product = refl
+
 -- LDA A, SZE, JMP '1005, LDA 1, JMP '1006, LDA 2, STA A
 conditional : wordsOf ".BEGIN .INTEGER A; A = .IF A .ZERO .THEN 1 .ELSE 2 .END" ≡ (0o1000, 0 ∷ [], 0o004200 ∷ 0o100040 ∷ 0o003005 ∷ 0o005010 ∷ 0o003006 ∷ 0o005011 ∷ 0o010200 ∷ 0o000000 ∷ 1 ∷ 2 ∷ [])
 unfolding computed

@@ -1,17 +1,18 @@
--- What instructions do to A and C. The semantics of the language acts through these.
+-- What instructions do to A, B and C. The semantics of the language acts through these.
 use Prim.Native.Nat.{ℕ, _+_, _-_, _%_}
-use mathlib.Core.Bool.{cond}
+use mathlib.Core.Bool.{cond, _&&_}
 use lib.Dec.{eqb}
 use lib.Bits.{bitAnd, bitXor}
 use Rattle.word.specs.Arithmetic.{SIGN, flagged, bit, negative, sumOf, differenceOf}
 use Rattle.word.specs.Bytes.{icaOf, calOf, carOf, icrOf, iclOf}
-use Rattle.word.specs.Shift.{shiftOf}
-use Rattle.instruction.specs.Opcode.{LDA, ANA, ERA, ADD, SUB}
-use Rattle.instruction.specs.Slot.{ACA, AOA, CAL, CAR, CHS, CMA, CRA, CSA, ICA, ICL, ICR, SSM, SSP, TCA}
+use Rattle.word.specs.Shift.{LLS, LRS, shiftOf}
+use Rattle.instruction.specs.Opcode.{LDA, ANA, ERA, ADD, SUB, MPY, DIV}
+use Rattle.instruction.specs.Slot.{ACA, AOA, CAL, CAR, CHS, CMA, CRA, CSA, IAB, ICA, ICL, ICR, SSM, SSP, TCA}
 use Rattle.effect.specs.declared.Registers.{Registers}
-use Rattle.effect.specs.Registers.{withA, withFlagged}
+use Rattle.effect.specs.Registers.{withA, withFlagged, swapped}
+use Rattle.effect.specs.Double.{multiplyOf, divideOf, longLeftOf, longRightOf}
 
--- with the operand v: only ADD and SUB set C (I6, I9, I13)
+-- with the operand v: only ADD, SUB and DIV set C, and only MPY and DIV set B (I6, I9, I13, I16, I17)
 unfoldable pub operateOf : ℕ → ℕ → Registers → Registers
 operateOf opcode v r =
     cond (eqb opcode LDA) (withA r v)
@@ -19,9 +20,11 @@ operateOf opcode v r =
     (cond (eqb opcode ERA) (withA r (bitXor (r .a) v))
     (cond (eqb opcode ADD) (withFlagged r (sumOf (r .a) v))
     (cond (eqb opcode SUB) (withFlagged r (differenceOf (r .a) v))
-    r))))
+    (cond (eqb opcode MPY) (multiplyOf v r)
+    (cond (eqb opcode DIV) (divideOf v r)
+    r))))))
 
--- the generic instructions on A and C: only CSA, AOA and ACA set C (I9, I10, I13)
+-- the generic instructions on A and C, and IAB: only CSA, AOA and ACA set C, and only IAB sets B (I9, I10, I13, I19)
 unfoldable pub unaryOf : ℕ → Registers → Registers
 unaryOf slot r =
     cond (eqb slot CRA) (withA r 0)
@@ -39,8 +42,12 @@ unaryOf slot r =
     (cond (eqb slot ACA) (withFlagged r (sumOf (r .a) (bit (r .c))))
     (cond (eqb slot ICR) (withA r (icrOf (r .a)))
     (cond (eqb slot ICA) (withA r (icaOf (r .a)))
-    r)))))))))))))
+    (cond (eqb slot IAB) (swapped r)
+    r))))))))))))))
 
--- a shift of A, with C (I11, I12)
+-- a shift of A, with C (I11, I12), or of A and B, by 15 only (I18)
 abbrev pub shiftedOf : ℕ → ℕ → Registers → Registers
-shiftedOf kind amount r = withFlagged r (shiftOf kind amount (r .a) (r .c))
+shiftedOf kind amount r =
+    cond (eqb kind LLS && eqb amount 15) (longLeftOf r)
+    (cond (eqb kind LRS && eqb amount 15) (longRightOf r)
+    (withFlagged r (shiftOf kind amount (r .a) (r .c))))

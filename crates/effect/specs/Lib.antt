@@ -1,4 +1,5 @@
 pub mod Registers
+pub mod Double
 pub mod Effects
 pub mod Skips
 pub mod Examples

@@ -1,13 +1,17 @@
 // What the instructions do to the registers A, B and C. Each function equals a definition of specs/, which the semantics of the language
 // uses too.
 ghost use mathlib.Core.Path.{_≡_};
-ghost use Rattle.effect.specs.Registers.{withA, withFlagged};
+ghost use Rattle.effect.specs.Registers.{withA, withFlagged, swapped};
 ghost use Rattle.effect.specs.Effects.{operateOf, unaryOf, shiftedOf};
 ghost use Rattle.effect.specs.Skips.{anySwitch, skipsOf};
 use instruction::opcode;
 use instruction::slot;
 use word::Flagged;
 use word::SIGN;
+use word::shift::LLS;
+use word::shift::LRS;
+
+mod double;
 
 pub struct Registers {
     pub a: u16,
@@ -39,7 +43,18 @@ fn with_flagged(r: Registers, f: Flagged) -> Registers
     }
 }
 
-// LDA, ANA, ERA, ADD and SUB with the operand v; any other opcode changes nothing.
+// A and B exchanged.
+fn swap(r: Registers) -> Registers
+    ensures { λ s. ⌜ s ≡ swapped r ⌝ }
+{
+    Registers {
+        a: r.b,
+        b: r.a,
+        c: r.c,
+    }
+}
+
+// LDA, ANA, ERA, ADD, SUB, MPY and DIV with the operand v; any other opcode changes nothing.
 pub fn operate(opcode: u16, v: u16, r: Registers) -> Registers
     ensures { λ s. ⌜ s ≡ operateOf opcode v r ⌝ }
 {
@@ -50,11 +65,13 @@ pub fn operate(opcode: u16, v: u16, r: Registers) -> Registers
         opcode::ERA => with_a(r, a ^ v),
         opcode::ADD => with_flagged(r, word::sum(a, v)),
         opcode::SUB => with_flagged(r, word::difference(a, v)),
+        opcode::MPY => double::multiply(v, r),
+        opcode::DIV => double::divide(v, r),
         _ => r,
     }
 }
 
-// The generic instructions that work on A and C; any other slot changes nothing.
+// The generic instructions that work on A, B and C; any other slot changes nothing.
 pub fn unary(slot: usize, r: Registers) -> Registers
     ensures { λ s. ⌜ s ≡ unaryOf slot r ⌝ }
 {
@@ -78,14 +95,21 @@ pub fn unary(slot: usize, r: Registers) -> Registers
         slot::ACA => with_flagged(r, word::sum(a, word::bit(r.c))),
         slot::ICR => with_a(r, word::bytes::icr(a)),
         slot::ICA => with_a(r, word::bytes::ica(a)),
+        slot::IAB => swap(r),
         _ => r,
     }
 }
 
-// A shift of A, with C.
+// A shift of A, with C, or of A and B.
 pub fn shifted(kind: u16, amount: u16, r: Registers) -> Registers
     ensures { λ s. ⌜ s ≡ shiftedOf kind amount r ⌝ }
 {
+    if kind == LLS && amount == 15 {
+        return double::long_left(r);
+    }
+    if kind == LRS && amount == 15 {
+        return double::long_right(r);
+    }
     with_flagged(r, word::shift::shift(kind, amount, r.a, r.c))
 }
 

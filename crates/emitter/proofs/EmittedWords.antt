@@ -92,6 +92,20 @@ pub emits-none : {b : Bases} {o : Output} {i : List ℕ} → Emits b o i o i []
 unfolding emitAll pooledAll literalsOf
 emits-none = record { emitted = refl; pool = refl }
 
-pub emits-through : {b : Bases} {o r : Output} {i j : List ℕ} {number : ℕ} (opcode : ℕ) → Puts o i r j (reference opcode true (0o200 + number)) → Emits b o i r j (Sym.through opcode number ∷ [])
-unfolding emitAll literalsOf literalOf pooledAll
-emits-through {b} {o} {i = i} {number = number} opcode p = record { emitted = p .emitted ∙ sym (through-word b (emittedBy o i) opcode number); pool = p .pool }
+-- a word that has no literal
+emits-word : {b : Bases} {o r : Output} {i j : List ℕ} (w : Sym) {n : ℕ} → literalOf w [] ≡ [] → emitWord b (emittedBy o i) w ≡ withWord (emittedBy o i) n → Puts o i r j n → Emits b o i r j (w ∷ [])
+unfolding emitAll literalsOf pooledAll
+emits-word w none is p = record { emitted = p .emitted ∙ sym is; pool = rw none (p .pool) }
+
+module _ {b : Bases} {o r : Output} {i j : List ℕ} where
+  pub emits-through : {number : ℕ} (opcode : ℕ) → Puts o i r j (reference opcode true (0o200 + number)) → Emits b o i r j (Sym.through opcode number ∷ [])
+  unfolding literalOf
+  emits-through {number} opcode p = emits-word (Sym.through opcode number) refl (through-word b (emittedBy o i) opcode number) p
+
+  pub emits-shift : (kind n : ℕ) → Puts o i r j (shiftWord kind n) → Emits b o i r j (Sym.shift kind n ∷ [])
+  unfolding literalOf
+  emits-shift kind n p = emits-word (Sym.shift kind n) refl (shift-word b (emittedBy o i) kind n) p
+
+  pub emits-generic : (slot : ℕ) → Puts o i r j (getD tableOf slot 0) → Emits b o i r j (Sym.generic slot ∷ [])
+  unfolding literalOf
+  emits-generic slot p = emits-word (Sym.generic slot) refl (generic-word b (emittedBy o i) slot) p

@@ -13,8 +13,9 @@ use Rattle.tree.specs.Symbols.{Names}
 use Rattle.grammar.specs.Parse.{Got, andThen, failAt, expect}
 use Rattle.grammar.specs.Parse.Got.{got}
 use Rattle.grammar.specs.Vocabulary.{unaries, operators, shifts, relations, tests, asOneOf}
-use Rattle.layout.specs.Words.{Sym, _⧺_, cellWords, controls, controlWords, testSlot}
+use Rattle.layout.specs.Words.{Sym, _⧺_, reachWords, instructionWord, cellWords, plainWords, controls, controlWords, testSlot}
 use Rattle.grammar.specs.Cells.{parseInRange, parseCell, parseLoneCell}
+use Rattle.expressions.specs.Vocabulary.{beforeBy, afterBy}
 
 module _ (source : List ℕ) where
   -- the unary words from an offset on, up to so many, and the offset after them
@@ -36,6 +37,10 @@ module _ (source : List ℕ) where
       asOneOf operators t (λ o. some (andThen (parseCell source names (t .next)) (λ c next. got (Operation.binary o c) next))) λ _.
       asOneOf shifts t (λ s. some (andThen (parseInRange source names (between 1 15) (t .next)) (λ n next. got (Operation.shift s n) next))) λ _.
       none
+
+-- the words of an operator's instruction on a cell, by the kind of the operator's token (W6, W18)
+unfoldable pub operatorWords : ℕ → ℕ → Cell → List Sym
+operatorWords kind opcode c = reachWords c ⧺ plainWords (beforeBy kind) ⧺ instructionWord opcode c ∷ plainWords (afterBy kind)
 
 -- what follows a condition's expression
 pub data Comparison : Type 0 where

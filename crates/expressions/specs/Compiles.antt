@@ -24,7 +24,7 @@ use Rattle.layout.specs.Map.{reference}
 use Rattle.emitter.specs.declared.Output.{Output}
 use Rattle.emitter.specs.declared.Context.{Context}
 use Rattle.layout.specs.Emission.{Emitted, Bases}
-use Rattle.emitter.specs.Emitted.{emittedBy, basesOf, Puts}
+use Rattle.emitter.specs.Emitted.{emittedBy, basesOf, Puts, Emits}
 use Rattle.emitter.specs.Lays.{WordsAt, Kept, Lays, ForwardJump, filled}
 use Rattle.expressions.specs.declared.OutputAnswer.{OutputAnswer}
 use Rattle.expressions.specs.declared.ConditionAnswer.{ConditionAnswer}
@@ -134,6 +134,10 @@ AlwaysDecides words output before after r = AlwaysForwardJump (emittedBy output 
 pub record PutsHole (output : Output) (image : List ℕ) (r : JumpAnswer) (image' : List ℕ) : Type 0 where
   pub puts : Puts output image (r .output) image' (reference JMP false 0)
   pub at : r .hole ≡ output .next
+
+-- words in which no operand stands, so that no address decides them
+pub record AlwaysEmits (ws : List Sym) (output : Output) (image : List ℕ) (r : Output) (image' : List ℕ) : Type 0 where
+  pub emits : (f : Bases) → Emits f output image r image' ws
 
 -- the words after a relation's CAS, by the relation's token
 pub record Related (kind : ℕ) (a b : Emitted) (hole : ℕ) : Type 0 where

@@ -8,6 +8,8 @@ use Rattle.source.specs.Kinds
 use Rattle.word.specs.Shift.{LGR, ARS, ARR, LGL, ALS, ALR}
 use Rattle.instruction.specs.Slot.{ACA, AOA, CAL, CAR, CHS, CMA, CSA, ICA, ICL, ICR, SLN, SLZ, SMI, SNZ, SPL, SRC, SS1, SS2, SS3, SS4, SSC, SSM, SSP, SSR, SSS, SZE, TCA}
 use Rattle.tree.specs.Tree.{Unary}
+use Rattle.grammar.specs.Vocabulary.{operators}
+use Rattle.layout.specs.Words.{Plain, operatorForm}
 
 -- 1 more than the number of a kind's row, or 0 where there is none
 unfoldable pub numberIn : {A : Type 0} → List (ℕ × A) → (A → ℕ) → ℕ → ℕ
@@ -47,3 +49,10 @@ ranged low high kind =
     whether (ltb kind Kinds.ZERO) (λ _. 0) λ _.
     whether (ltb Kinds.NOKEY kind) (λ _. 0) λ _.
     1 + getD wordTable (kind - Kinds.ZERO) 0
+
+-- what stands before and after an operator's instruction, by its token's kind; nothing where it is no operator (W18)
+unfoldable pub beforeBy : ℕ → List Plain
+beforeBy kind = given (find (eqb kind) operators) (λ row. operatorForm (row .1) .before) (λ _. [])
+
+unfoldable pub afterBy : ℕ → List Plain
+afterBy kind = given (find (eqb kind) operators) (λ row. operatorForm (row .1) .after) (λ _. [])

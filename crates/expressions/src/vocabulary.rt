@@ -111,6 +111,12 @@ pub fn operator(kind: u16) -> u16
         1 + opcode::ANA
     } else if kind == kind::NEV {
         1 + opcode::ERA
+    } else if kind == kind::STAR {
+        1 + opcode::MPY
+    } else if kind == kind::SLASH {
+        1 + opcode::DIV
+    } else if kind == kind::MOD {
+        1 + opcode::DIV
     } else {
         0
     }

@@ -80,13 +80,14 @@ conditionOf source = andThen (parseCond source [] (parseExpr source [] 33) 0) (�
 
 -- every unary word before the term, every operation after it, all in the order of the source
 every-operation :
-    expression (bytes ".ADDC .INC .NEG .SSP .SSM .CHS .CSA .NOT .ICLEFT .CLEFT .SWOP .ICRIGHT .CRIGHT .ABS X + 1 - 2 .AND 3 .NEV 4 .LGR 1 .ARS 2 .ARR 3 .LGL 4 .ALS 5 .ALR 15")
+    expression (bytes ".ADDC .INC .NEG .SSP .SSM .CHS .CSA .NOT .ICLEFT .CLEFT .SWOP .ICRIGHT .CRIGHT .ABS X + 1 - 2 .AND 3 .NEV 4 .LGR 1 .ARS 2 .ARR 3 .LGL 4 .ALS 5 .ALR 15 * 5 / X .MOD -7")
     ≡ got
     (fromX
     (Unary.addc ∷ Unary.inc ∷ Unary.neg ∷ Unary.ssp ∷ Unary.ssm ∷ Unary.chs ∷ Unary.csa ∷ Unary.not ∷ Unary.icleft ∷ Unary.cleft ∷ Unary.swop ∷ Unary.icright ∷ Unary.cright ∷ Unary.abs ∷ [])
     (Operation.binary Operator.add (number 1) ∷ Operation.binary Operator.subtract (number 2) ∷ Operation.binary Operator.and (number 3) ∷ Operation.binary Operator.nev (number 4) ∷
-    Operation.shift Shift.lgr 1 ∷ Operation.shift Shift.ars 2 ∷ Operation.shift Shift.arr 3 ∷ Operation.shift Shift.lgl 4 ∷ Operation.shift Shift.als 5 ∷ Operation.shift Shift.alr 15 ∷ []))
-    150
+    Operation.shift Shift.lgr 1 ∷ Operation.shift Shift.ars 2 ∷ Operation.shift Shift.arr 3 ∷ Operation.shift Shift.lgl 4 ∷ Operation.shift Shift.als 5 ∷ Operation.shift Shift.alr 15 ∷
+    Operation.binary Operator.multiply (number 5) ∷ Operation.binary Operator.divide (Cell.plain (Operand.named Id.x)) ∷ Operation.binary Operator.modulo (number 65529) ∷ []))
+    166
 unfolding computed
 every-operation = refl
 

@@ -51,8 +51,8 @@ rows =
     (".BEGIN .INTEGER ABCDEFG, ABCDEFH; .END", 8, 25) ∷
     (".BEGIN .INTEGER ABCDE1, ABCDE2; ABCDE2XX=1 .END", 0, 0) ∷
     -- the first token that fails, by its lowest number; a name that stands where none may; what follows the last `.END` (J2, J3, J6, J11)
-    (".BEGIN Y=1 * .END", 7, 7) ∷
-    (".BEGIN X=1 * .END", 4, 11) ∷
+    (".BEGIN Y=1 ! .END", 7, 7) ∷
+    (".BEGIN X=1 ! .END", 4, 11) ∷
     (".BEGIN X=1 40000 .END", 5, 11) ∷
     (".BEGIN X=1 Y .END", 6, 11) ∷
     (".BEGIN .END .END", 6, 12) ∷
@@ -96,7 +96,32 @@ rows =
     (".BEGIN .IF .CSET .THEN X=1; .ELSE X=2 .END", 6, 26) ∷
     (".BEGIN .WHEN .ZERO .ZERO .THEN .END", 0, 0) ∷
     (".BEGIN @=X + .ZERO .END", 6, 13) ∷
-    (".BEGIN @=.NEG .IF .CSET .THEN 1 .ELSE 2 .END", 6, 14) ∷ []
+    (".BEGIN @=.NEG .IF .CSET .THEN 1 .ELSE 2 .END", 6, 14) ∷
+    -- `*`, `/` and `.MOD`: with a cell only, after an expression's part only (E7, T2, F6); the minus behind them and behind their cell (T11)
+    (".BEGIN .ARRAY T[2]; @=X*2/T[X] .MOD2*T[#]-1 .END", 0, 0) ∷
+    (".BEGIN @=X*(2) .END", 6, 11) ∷
+    (".BEGIN @=X/@ .END", 6, 11) ∷
+    (".BEGIN @=X .MOD .ZERO .END", 6, 16) ∷
+    (".BEGIN @=X*.NEG 2 .END", 6, 11) ∷
+    (".BEGIN @=X*#.END", 6, 11) ∷
+    (".BEGIN @=X** .END", 6, 11) ∷
+    (".BEGIN @=X/;.END", 6, 11) ∷
+    (".BEGIN @=*X .END", 6, 9) ∷
+    (".BEGIN / .END", 6, 7) ∷
+    (".BEGIN .MOD X .END", 6, 7) ∷
+    (".BEGIN X*2 .END", 6, 8) ∷
+    (".BEGIN .ARRAY T[2*3]; .END", 6, 17) ∷
+    (".BEGIN .ARRAY T[2]; @=T[2/1] .END", 6, 25) ∷
+    (".BEGIN .WHEN X=2*3 .THEN .END", 6, 16) ∷
+    (".BEGIN .WHEN X*2 .THEN .END", 6, 17) ∷
+    (".BEGIN #=X*2 .END", 6, 10) ∷
+    (".BEGIN .END *", 6, 12) ∷
+    (".BEGIN @=X .MODE 2 .END", 4, 11) ∷
+    (".BEGIN @=X*-3 .END", 0, 0) ∷
+    (".BEGIN @=X/--3 .END", 6, 11) ∷
+    (".BEGIN @=X .MOD-40000 .END", 5, 15) ∷
+    (".BEGIN @=X*3-40000 .END", 5, 13) ∷
+    (".BEGIN @=X/- 3 .END", 6, 11) ∷ []
 
 failures : map (λ row. resultOf (parseProgram (bytes (row .0)))) rows ≡ map (λ row. (row .1, row .2)) rows
 unfolding computed
@@ -112,10 +137,11 @@ used before after =
     ("I" ∷ "K" ∷ "C" ∷ "T" ∷ "P" ∷ "F" ∷ "N" ∷ "X" ∷ [])
 
 uses :
-    used ".CONSTANT V=" ";" ∷ used ".FOR " "=1 .DO" ∷ used "@=T[" "]" ∷ used "@=X+" "" ∷ used "@=" "" ∷ used "" "=1" ∷ used "" "" ∷ []
+    used ".CONSTANT V=" ";" ∷ used ".FOR " "=1 .DO" ∷ used "@=T[" "]" ∷ used "@=X+" "" ∷ used "@=X/" "" ∷ used "@=" "" ∷ used "" "=1" ∷ used "" "" ∷ []
     ≡ (7 ∷ 0 ∷ 0 ∷ 7 ∷ 7 ∷ 7 ∷ 7 ∷ 7 ∷ []) ∷
     (0 ∷ 7 ∷ 7 ∷ 7 ∷ 7 ∷ 7 ∷ 7 ∷ 0 ∷ []) ∷
     (0 ∷ 0 ∷ 0 ∷ 7 ∷ 7 ∷ 7 ∷ 7 ∷ 0 ∷ []) ∷
+    (0 ∷ 0 ∷ 0 ∷ 6 ∷ 7 ∷ 7 ∷ 7 ∷ 0 ∷ []) ∷
     (0 ∷ 0 ∷ 0 ∷ 6 ∷ 7 ∷ 7 ∷ 7 ∷ 0 ∷ []) ∷
     (0 ∷ 0 ∷ 0 ∷ 6 ∷ 7 ∷ 0 ∷ 7 ∷ 0 ∷ []) ∷
     (0 ∷ 7 ∷ 7 ∷ 6 ∷ 6 ∷ 6 ∷ 7 ∷ 0 ∷ []) ∷
@@ -145,11 +171,11 @@ procedure n inside =
     resultOf (parseProgram (bytes ".BEGIN .PROCEDURE P; .BEGIN " ++ (times n (bytes ".BEGIN ") ++ (bytes inside ++ (times n (bytes " .END") ++ bytes " .END; .END")))))
 
 nesting :
-    bracketed 32 "X" ∷ bracketed 33 "X" ∷ bracketed 33 ")" ∷ bracketed 33 "Y" ∷ bracketed 33 "40000" ∷ bracketed 33 "*" ∷ bracketed 33 ".NEG" ∷ bracketed 33 ".IF" ∷
+    bracketed 32 "X" ∷ bracketed 33 "X" ∷ bracketed 33 ")" ∷ bracketed 33 "Y" ∷ bracketed 33 "40000" ∷ bracketed 33 "!" ∷ bracketed 33 "*" ∷ bracketed 33 ".NEG" ∷ bracketed 33 ".IF" ∷
     bracketed 31 ".IF X .ZERO .THEN 1 .ELSE 2" ∷ bracketed 32 ".IF X .ZERO .THEN 1 .ELSE 2" ∷ bracketed 32 ".IF .CSET .THEN 1 .ELSE 2" ∷
     compound 32 "X=1" ∷ compound 33 "X=1" ∷ compound 33 "Y=1" ∷ compound 33 ";" ∷ compound 33 "" ∷ compound 31 "X=(1)" ∷ compound 32 "X=(1)" ∷
     called 33 ∷ called 34 ∷ procedure 32 "X=1" ∷ procedure 33 "X=1" ∷ []
-    ≡ (0, 0) ∷ (9, 33) ∷ (6, 33) ∷ (7, 33) ∷ (5, 33) ∷ (4, 33) ∷ (9, 33) ∷ (9, 33) ∷
+    ≡ (0, 0) ∷ (9, 33) ∷ (6, 33) ∷ (7, 33) ∷ (5, 33) ∷ (4, 33) ∷ (6, 33) ∷ (9, 33) ∷ (9, 33) ∷
     (0, 0) ∷ (9, 36) ∷ (9, 48) ∷
     (0, 0) ∷ (9, 238) ∷ (7, 238) ∷ (0, 0) ∷ (0, 0) ∷ (0, 0) ∷ (9, 234) ∷
     (0, 0) ∷ (9, 115) ∷ (0, 0) ∷ (9, 259) ∷ []

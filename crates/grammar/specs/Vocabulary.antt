@@ -16,7 +16,9 @@ unaries =
 
 -- the operators (E7)
 abbrev pub operators : List (ℕ × Operator)
-operators = (Kinds.plus, Operator.add) ∷ (Kinds.minus, Operator.subtract) ∷ (Kinds.AND, Operator.and) ∷ (Kinds.NEV, Operator.nev) ∷ []
+operators =
+    (Kinds.plus, Operator.add) ∷ (Kinds.minus, Operator.subtract) ∷ (Kinds.AND, Operator.and) ∷ (Kinds.NEV, Operator.nev) ∷
+    (Kinds.star, Operator.multiply) ∷ (Kinds.slash, Operator.divide) ∷ (Kinds.MOD, Operator.modulo) ∷ []
 
 -- the shift words (E7)
 abbrev pub shifts : List (ℕ × Shift)

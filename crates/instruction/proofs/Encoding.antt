@@ -5,21 +5,21 @@ use mathlib.Core.Logic.{_⊎_, inl, inr}
 use mathlib.Core.Bool.{Bool, true, false, not, _&&_, _||_, and-true, and-eq-true-iff}
 use mathlib.Core.List.{List, [], _∷_, List·Memᴰ, List·Memᴰ·head, List·Memᴰ·tail}
 use native.Mathlib.Omega.{arith}
-use lib.Dec.{eqb, leb, ltb, leb→le, ltb→lt}
+use lib.Dec.{T, eqb, leb, ltb, leb→le, ltb→lt}
 use borrow.Author.Tests.{leb-true, leb-false, eqb-true, eqb-false, le-leb, lt-leb, eq-eqb, ne-eqb}
 use Rattle.word.specs.Arithmetic.{bit}
-use Rattle.word.specs.Shift.{LGR, ARR, LGL, ALR}
+use Rattle.word.specs.Shift.{LGR, ARR, LGL, ALR, LRS}
 use Rattle.instruction.specs.declared.Instruction.{Instruction}
 use Rattle.instruction.specs.declared.Instruction.the-variants.{Memory, Shift, Generic, Unknown}
 use Rattle.instruction.specs.Field.{TAG, SECTOR, indirectOf, tagOf, sectorOf, opcodeOf}
 use Rattle.instruction.specs.Opcode.{LDX, opcodes}
-use Rattle.instruction.specs.Table.{shiftKinds, Row, row, generics}
-use Rattle.instruction.specs.Decode.{findWord, genericOf, isIn, shiftOf, isMemory, addsX, memoryOf, decodeDef}
-use Rattle.instruction.specs.Encode.{memoryWord, shiftWord, Encodes, memory, loadX, shift, generic}
+use Rattle.instruction.specs.Table.{shortKinds, longKinds, Row, row, generics}
+use Rattle.instruction.specs.Decode.{findWord, genericOf, isIn, isShift, shiftOf, isMemory, addsX, memoryOf, decodeDef}
+use Rattle.instruction.specs.Encode.{memoryWord, shiftWord, Encodes, memory, loadX, shift, long, generic}
 use Rattle.instruction.specs.Agreement.{UnknownExactly, Agreement}
-use Rattle.instruction.proofs.Every.{both, both-left, both-right, off, passes}
+use Rattle.instruction.proofs.Every.{both, both-left, both-right, off, all, passes}
 use Rattle.instruction.proofs.Choice.{cond-when, cond-all}
-use Rattle.instruction.proofs.Members.{or-either, in-member, member-in, range, in-range, in-either}
+use Rattle.instruction.proofs.Members.{or-either, or-right, in-member, member-in, range, in-range, in-either}
 use Rattle.instruction.proofs.Rows.{isAt, is-at, decode-same, slots}
 
 -- a flag and its bit
@@ -99,33 +99,43 @@ decode-loadX address indirect sector nine =
     simp (p .code-part, p .indirect-part, p .tag-part, p .sector-part, p .address-part)
 
 -- the test of the six kinds by bounds, as the code has it
-pub kind-test : (kind : ℕ) → isIn kind shiftKinds ≡ ((leb LGR kind && leb kind ARR) || (leb LGL kind && leb kind ALR))
+pub kind-test : (kind : ℕ) → isIn kind shortKinds ≡ ((leb LGR kind && leb kind ARR) || (leb LGL kind && leb kind ALR))
 unfolding range
 kind-test kind = in-either kind (range LGR 2) (range LGL 2) ∙ ap₂ _||_ (in-range kind LGR 2) (in-range kind LGL 2)
 
-kind-bounds : {kind : ℕ} → List·Memᴰ kind shiftKinds → (LGR ≤ kind) × (kind ≤ ALR)
-kind-bounds {kind} m =
-    let t = passes (λ (k : ℕ). both (leb LGR k) (leb k ALR)) kind shiftKinds tt m in
-    (leb→le _ _ (both-left (leb LGR kind) (leb kind ALR) t), leb→le _ _ (both-right (leb LGR kind) (leb kind ALR) t))
+-- the kinds of both lists stand from LRS to ALR
+abbrev between : ℕ → Bool
+between kind = both (leb LRS kind) (leb kind ALR)
+
+kind-bounds : {kind : ℕ} {kinds : List ℕ} → List·Memᴰ kind kinds → T (all between kinds) → (LRS ≤ kind) × (kind ≤ ALR)
+kind-bounds {kind} {kinds} m t =
+    let b = passes between kind kinds t m in
+    (leb→le _ _ (both-left (leb LRS kind) (leb kind ALR) b), leb→le _ _ (both-right (leb LRS kind) (leb kind ALR) b))
 
 shift-word : (kind n : ℕ) → kind ≤ ALR → n ≤ 15 → shiftWord kind n ≡ kind * 64 + (64 - n)
 unfolding shiftWord
 shift-word kind n k h = let r : n % 64 ≡ n = omega arith in rw r (omega arith)
 
-decode-shift : (kind n : ℕ) → List·Memᴰ kind shiftKinds → 1 ≤ n → n ≤ 15 → decodeDef (shiftWord kind n) ≡ Shift kind n
+decode-shift : (kind n : ℕ) → (LRS ≤ kind) × (kind ≤ ALR) → 1 ≤ n → n ≤ 15 → isShift kind (64 - n) ≡ true → decodeDef (shiftWord kind n) ≡ Shift kind n
 unfolding decodeDef shiftOf
-decode-shift kind n m l h =
+decode-shift kind n k l h i =
     let w = kind * 64 + (64 - n) in
-    let k = kind-bounds m in
     let u = shift-word kind n (k .1) h in
     let q : w / 1024 ≡ 16 = omega (arith, k .0, k .1) in
     let c : opcodeOf w ≡ 0 = omega arith in
     let t : w / TAG ≡ 1 = omega arith in
     let r : w % 64 ≡ 64 - n = omega arith in
     let d : w / 64 ≡ kind = omega arith in
-    let b : leb 49 (64 - n) ≡ true = le-leb 49 (64 - n) (omega arith) in
     let x : 64 - (64 - n) ≡ n = omega arith in
-    simp (u, c, t, r, d, b, member-in kind shiftKinds m, x)
+    simp (u, c, t, r, d, i, x)
+
+decode-short : (kind n : ℕ) → List·Memᴰ kind shortKinds → 1 ≤ n → n ≤ 15 → decodeDef (shiftWord kind n) ≡ Shift kind n
+decode-short kind n m l h =
+    decode-shift kind n (kind-bounds m tt) l h (rw (le-leb 49 (64 - n) (omega arith), member-in kind shortKinds m) refl)
+
+decode-long : (kind : ℕ) → List·Memᴰ kind longKinds → decodeDef (shiftWord kind 15) ≡ Shift kind 15
+decode-long kind m =
+    decode-shift kind 15 (kind-bounds m tt) (omega arith) (omega arith) (or-right (isIn kind shortKinds) (member-in kind longKinds m))
 
 -- each row of the table decodes to its slot: one test
 row-decodes : Row → Bool
@@ -139,7 +149,8 @@ decode-generic slot word m = is-at slot (decodeDef word) (passes row-decodes (ro
 pub encoded : {i : Instruction} {w : ℕ} → Encodes i w → decodeDef w ≡ i
 encoded (memory {opcode} {address} {indirect} {tag} {sector} m nine) = decode-memory opcode address indirect tag sector m nine
 encoded (loadX {address} {indirect} {sector} nine) = decode-loadX address indirect sector nine
-encoded (shift {kind} {amount} m l h) = decode-shift kind amount m l h
+encoded (shift {kind} {amount} m l h) = decode-short kind amount m l h
+encoded (long {kind} m) = decode-long kind m
 encoded (generic {slot} {word} m) = decode-generic slot word m
 
 -- a decoded instruction's word, put together again: the quotients by 512, 1024, 16384 and 32768
@@ -176,18 +187,33 @@ generic-decoded : (w : ℕ) → Decoded w (genericOf w)
 unfolding genericOf
 generic-decoded w = found w generics (λ x m. m)
 
+-- a shift by its word's parts, and by the word
+shift-as : (w : ℕ) → w / 64 ≤ ALR → 49 ≤ w % 64 → Encodes (Shift (w / 64) (64 - w % 64)) (shiftWord (w / 64) (64 - w % 64))
+    → Encodes (Shift (w / 64) (64 - w % 64)) w
+shift-as w k l e =
+    let u = shift-word (w / 64) (64 - w % 64) k (omega arith) in
+    let q : w / 64 * 64 + (64 - (64 - w % 64)) ≡ w = omega arith in
+    subst (Encodes (Shift (w / 64) (64 - w % 64))) (u ∙ q) e
+
 shift-decoded : (w : ℕ) → Decoded w (shiftOf w)
 unfolding shiftOf Decoded
 shift-decoded w =
-    cond-when (Decoded w) (leb 49 (w % 64) && isIn (w / 64) shiftKinds) (Shift (w / 64) (64 - w % 64)) Unknown
-    (λ e.
-    let both-true = and-eq-true-iff (leb 49 (w % 64)) _ .0 e in
-    let l = leb-true 49 (w % 64) (both-true .0) in
-    let m = in-member (w / 64) shiftKinds (both-true .1) in
-    let u = shift-word (w / 64) (64 - w % 64) (kind-bounds m .1) (omega arith) in
-    let q : w / 64 * 64 + (64 - (64 - w % 64)) ≡ w = omega arith in
-    inr (subst (Encodes (Shift (w / 64) (64 - w % 64))) (u ∙ q) (shift m (omega arith) (omega arith))))
+    cond-when (Decoded w) (isShift (w / 64) (w % 64)) (Shift (w / 64) (64 - w % 64)) Unknown
+    (λ e. inr (by (or-either (leb 49 (w % 64) && isIn (w / 64) shortKinds) _ e)))
     (λ e. inl refl)
+  where
+    by : ((leb 49 (w % 64) && isIn (w / 64) shortKinds) ≡ true) ⊎ ((eqb (w % 64) 49 && isIn (w / 64) longKinds) ≡ true)
+        → Encodes (Shift (w / 64) (64 - w % 64)) w
+    by (inl e) =
+        let both-true = and-eq-true-iff (leb 49 (w % 64)) _ .0 e in
+        let l = leb-true 49 (w % 64) (both-true .0) in
+        let m = in-member (w / 64) shortKinds (both-true .1) in
+        shift-as w (kind-bounds m tt .1) l (shift m (omega arith) (omega arith))
+    by (inr e) =
+        let both-true = and-eq-true-iff (eqb (w % 64) 49) _ .0 e in
+        let f = eqb-true (w % 64) 49 (both-true .0) in
+        let m = in-member (w / 64) longKinds (both-true .1) in
+        shift-as w (kind-bounds m tt .1) (omega arith) (rw f (long m))
 
 -- an instruction by its opcode and tag, and by the word's
 memory-as : {opcode : ℕ} (tag : Bool) {adds : Bool} (w : ℕ) → w < 65536 → opcodeOf w ≡ opcode → bit tag ≡ w / TAG % 2 → addsX opcode (tagOf w) ≡ adds
@@ -226,6 +252,7 @@ not-unknown : {i : Instruction} {w : ℕ} → Encodes i w → i ≡ Unknown → 
 not-unknown (memory m nine) e = let z : _≡_ {A = ℕ} 0 1 = cc in omega arith
 not-unknown (loadX nine) e = let z : _≡_ {A = ℕ} 0 1 = cc in omega arith
 not-unknown (shift k l h) e = let z : _≡_ {A = ℕ} 0 1 = cc in omega arith
+not-unknown (long k) e = let z : _≡_ {A = ℕ} 0 1 = cc in omega arith
 not-unknown (generic m) e = let z : _≡_ {A = ℕ} 0 1 = cc in omega arith
 
 pub unknown-exactly : (w : ℕ) → w < 65536 → UnknownExactly w

@@ -9,7 +9,7 @@ use Rattle.instruction.specs.declared.Instruction.the-variants.{Memory, 
 use Rattle.instruction.specs.Field.{TAG, indirectOf, tagOf, sectorOf, opcodeOf}
 use Rattle.instruction.specs.Opcode.{LDX, opcodes}
 use Rattle.instruction.specs.Slot.{slotOf}
-use Rattle.instruction.specs.Table.{shiftKinds, Row, generics}
+use Rattle.instruction.specs.Table.{shortKinds, longKinds, Row, generics}
 
 -- the row that has the word; where none has, it is no instruction (I14)
 unfoldable pub findWord : ℕ → List Row → Instruction
@@ -25,9 +25,13 @@ abbrev pub isIn : ℕ → List ℕ → Bool
 isIn n [] = false
 isIn n (m ∷ ms) = eqb n m || isIn n ms
 
--- one of the six kinds; the low six bits are 64 less the amount, and with 48 or less there is no such shift (I11, I14)
+-- whether there is a shift of a kind whose field, the low six bits, is 64 less its amount: of six kinds by up to 15 (I11), of two by 15 only (I18)
+abbrev pub isShift : ℕ → ℕ → Bool
+isShift kind field = leb 49 field && isIn kind shortKinds || eqb field 49 && isIn kind longKinds
+
+-- other kinds and amounts are no instruction's (I14)
 unfoldable pub shiftOf : ℕ → Instruction
-shiftOf w = cond (leb 49 (w % 64) && isIn (w / 64) shiftKinds) (Shift (w / 64) (64 - w % 64)) Unknown
+shiftOf w = cond (isShift (w / 64) (w % 64)) (Shift (w / 64) (64 - w % 64)) Unknown
 
 -- the opcodes that go with a tag and without, and LDX with its tag only (I1, I2); the others are no instruction's (I14)
 abbrev pub isMemory : ℕ → Bool → Bool

@@ -1,4 +1,4 @@
--- The opcodes of the memory-reference instructions (I2).
+-- The opcodes of the memory-reference instructions (I2, I16, I17).
 use Prim.Native.Nat.{ℕ}
 use mathlib.Core.List.{List, [], _∷_}
 
@@ -35,8 +35,15 @@ IRS = 0o12
 abbrev pub LDX : ℕ
 LDX = 0o15
 
--- all but LDX, which goes with its tag only: these go with one and without (I2)
+abbrev pub MPY : ℕ
+MPY = 0o16
+
+abbrev pub DIV : ℕ
+DIV = 0o17
+
+-- all but LDX, which goes with its tag only: these go with one and without (I2, I16, I17)
 abbrev pub opcodes : List ℕ
 opcodes =
     JMP ∷ LDA ∷ ANA ∷ STA ∷ ERA ∷
-    ADD ∷ SUB ∷ JST ∷ CAS ∷ IRS ∷ []
+    ADD ∷ SUB ∷ JST ∷ CAS ∷ IRS ∷
+    MPY ∷ DIV ∷ []

@@ -97,3 +97,6 @@ ICR = slotOf 0o141240
 
 abbrev pub ICA : ℕ
 ICA = slotOf 0o141340
+
+abbrev pub IAB : ℕ
+IAB = slotOf 0o000201

@@ -4,8 +4,8 @@ ghost use Prim.Native.Nat.{_<_};
 ghost use mathlib.Core.Bool.{_&&_};
 ghost use lib.Dec.{leb};
 ghost use Rattle.instruction.specs.Field.{opcodeOf};
-ghost use Rattle.instruction.specs.Table.{shiftKinds, tableOf};
-ghost use Rattle.instruction.specs.Decode.{isIn, genericIn, shiftOf, memoryOf, decodeIn};
+ghost use Rattle.instruction.specs.Table.{shortKinds, tableOf};
+ghost use Rattle.instruction.specs.Decode.{isIn, isShift, genericIn, shiftOf, memoryOf, decodeIn};
 ghost use Rattle.instruction.specs.Agreement.{Agreement};
 ghost use Rattle.instruction.specs.Encode.{memoryWord, shiftWord};
 use field::INDIRECT;
@@ -16,12 +16,14 @@ use word::shift::ALR;
 use word::shift::ARR;
 use word::shift::LGL;
 use word::shift::LGR;
+use word::shift::LLS;
+use word::shift::LRS;
 
 pub mod field;
 pub mod opcode;
 pub mod slot;
 
-// The generic instructions (I10), each at its slot. A slot that none has holds 0, the word of HLT, which is looked for at its own slot.
+// The generic instructions (I10, I19), each at its slot. A slot that none has holds 0, the word of HLT, which is looked for at its own slot.
 const TABLE: [u16; slot::COUNT] = [
     0o000000, // HLT
     0,
@@ -56,7 +58,7 @@ const TABLE: [u16; slot::COUNT] = [
     0,
     0,
     0o100000, // SKP
-    0,
+    0o000201, // IAB
     0,
     0,
     0o101004, // SS3
@@ -131,19 +133,28 @@ fn within(low: u16, high: u16, n: u16) -> bool
     low <= n && n <= high
 }
 
-fn is_shift(kind: u16) -> bool
-    ensures { λ r. ⌜ r ≡ isIn kind shiftKinds ⌝ }
+fn is_short(kind: u16) -> bool
+    ensures { λ r. ⌜ r ≡ isIn kind shortKinds ⌝ }
 {
     within(LGR, ARR, kind) || within(LGL, ALR, kind)
 }
 
-// The field holds 64 less the amount, which is at most 15.
+// Whether there is a shift of a kind with such a field, which holds 64 less the amount: of A by up to 15, of A and B by 15.
+fn is_shift(kind: u16, field: u16) -> bool
+    ensures { λ r. ⌜ r ≡ isShift kind field ⌝ }
+{
+    if 49 <= field && is_short(kind) {
+        return true;
+    }
+    field == 49 && (kind == LRS || kind == LLS)
+}
+
 fn shift(w: u16) -> Instruction
     ensures { λ r. ⌜ r ≡ shiftOf w ⌝ }
 {
     let kind = w / 64;
     let field = w % 64;
-    if 49 <= field && is_shift(kind) {
+    if is_shift(kind, field) {
         Instruction::Shift {
             kind,
             amount: 64 - field,
@@ -153,7 +164,8 @@ fn shift(w: u16) -> Instruction
     }
 }
 
-// The opcode is not 0. Above IRS there is LDX alone, whose tag is its own and does not add X.
+// The opcode is not 0. Between IRS and MPY there is LDX alone, whose tag is its own and does not add X. It is asked for first: with one test of
+// that range every other opcode would take longer.
 fn memory(w: u16) -> Instruction
     requires { ⌜ 0 < opcodeOf w ⌝ }
     ensures { λ r. ⌜ r ≡ memoryOf w ⌝ }
@@ -161,10 +173,14 @@ fn memory(w: u16) -> Instruction
     let opcode = field::opcode(w);
     let mut tag = field::is_tagged(w);
     if opcode::IRS < opcode {
-        if opcode != opcode::LDX || !tag {
+        if opcode == opcode::LDX {
+            if !tag {
+                return Instruction::Unknown;
+            }
+            tag = false;
+        } else if opcode < opcode::MPY {
             return Instruction::Unknown;
         }
-        tag = false;
     }
     Instruction::Memory {
         opcode,

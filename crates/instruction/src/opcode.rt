@@ -1,4 +1,4 @@
-// The opcodes of the memory-reference instructions (I2).
+// The opcodes of the memory-reference instructions (I2, I16, I17).
 pub const JMP: u16 = 0o1;
 
 pub const LDA: u16 = 0o2;
@@ -20,3 +20,7 @@ pub const CAS: u16 = 0o11;
 pub const IRS: u16 = 0o12;
 
 pub const LDX: u16 = 0o15;
+
+pub const MPY: u16 = 0o16;
+
+pub const DIV: u16 = 0o17;

@@ -77,3 +77,5 @@ pub const ACA: usize = 0o141216 * FACTOR / DIVISOR % COUNT;
 pub const ICR: usize = 0o141240 * FACTOR / DIVISOR % COUNT;
 
 pub const ICA: usize = 0o141340 * FACTOR / DIVISOR % COUNT;
+
+pub const IAB: usize = 0o000201 * FACTOR / DIVISOR % COUNT;

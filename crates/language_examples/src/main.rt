@@ -67,6 +67,8 @@ fn expressions() {
     example(b"order.pl516", 1, b"0000");
     example(b"bits.pl516", 1, b"0000");
     example(b"words.pl516", 1, b"0000");
+    example(b"fat.pl516", 1, b"0000");
+    example(b"parts.pl516", 1, b"0000");
 }
 
 fn statements() {

@@ -4,8 +4,9 @@ use Prim.Native.Nat.{ℕ}
 use mathlib.Core.Bool.{false}
 use lib.ListN.{take, drop, replicate}
 use mathlib.Core.List.{List, [], _∷_, map}
-use Rattle.instruction.specs.Opcode.{LDA, STA, ADD, CAS, IRS, LDX}
-use Rattle.instruction.specs.Slot.{HLT, SKP, NOP, SSC, CRA, TCA, AOA}
+use Rattle.word.specs.Shift.{LRS, LLS}
+use Rattle.instruction.specs.Opcode.{LDA, STA, ADD, CAS, IRS, LDX, MPY, DIV}
+use Rattle.instruction.specs.Slot.{HLT, SKP, NOP, SSC, CRA, TCA, AOA, IAB}
 use Rattle.tree.specs.Tree.{Id, Array, Operand, Subscript, Cell, Unary, Operator, Operation, Relation, Bare, Expr, Term, Cond, Target, Stmt, Stmts, Item, Declaration, Program}
 use Rattle.layout.specs.Words.{Sym, stmtEnd, exprWords, condWords, stmtWords, mainWords}
 use Rattle.layout.specs.Pool.{literalsOf, indexOf, addedAll}
@@ -49,6 +50,36 @@ element-to-element :
     ≡ Sym.memory LDX (Operand.named j) ∷ Sym.through LDA 1 ∷ Sym.memory LDX (Operand.named i) ∷ Sym.through STA 0 ∷ []
 unfolding computed
 element-to-element = refl
+
+-- `*`, `/` and `.MOD`, each with 5, `A[I]` and `B[#]`: a subscript's LDX ahead of all (W18)
+abbrev operated : Operator → List (List Sym)
+operated o =
+    map (λ c. exprWords (Expr.chain [] Term.accumulator (Operation.binary o c ∷ [])) 0o1000)
+    (Cell.plain five ∷ Cell.item a (Subscript.by (Operand.named i)) ∷ Cell.item b Subscript.hash ∷ [])
+
+multiplied :
+    operated Operator.multiply
+    ≡ (Sym.memory MPY five ∷ Sym.shift LLS 15 ∷ []) ∷
+    (Sym.memory LDX (Operand.named i) ∷ Sym.through MPY 0 ∷ Sym.shift LLS 15 ∷ []) ∷
+    (Sym.through MPY 1 ∷ Sym.shift LLS 15 ∷ []) ∷ []
+unfolding computed
+multiplied = refl
+
+divided :
+    operated Operator.divide
+    ≡ (Sym.shift LRS 15 ∷ Sym.memory DIV five ∷ []) ∷
+    (Sym.memory LDX (Operand.named i) ∷ Sym.shift LRS 15 ∷ Sym.through DIV 0 ∷ []) ∷
+    (Sym.shift LRS 15 ∷ Sym.through DIV 1 ∷ []) ∷ []
+unfolding computed
+divided = refl
+
+remainder :
+    operated Operator.modulo
+    ≡ (Sym.shift LRS 15 ∷ Sym.memory DIV five ∷ Sym.generic IAB ∷ []) ∷
+    (Sym.memory LDX (Operand.named i) ∷ Sym.shift LRS 15 ∷ Sym.through DIV 0 ∷ Sym.generic IAB ∷ []) ∷
+    (Sym.shift LRS 15 ∷ Sym.through DIV 1 ∷ Sym.generic IAB ∷ []) ∷ []
+unfolding computed
+remainder = refl
 
 -- `@ = 5` and the other relations, from '1000 on; what fails goes to '2000
 abbrev compared : Relation → List Sym
@@ -106,6 +137,13 @@ inner-parts = refl
 pool-order : literalsOf (stmtWords (Stmt.assign (Target.item a (Subscript.by (Operand.literal 65535))) (Expr.chain [] (Term.cell (Cell.plain five)) [])) 0o1000) ≡ 5 ∷ 65535 ∷ []
 unfolding computed
 pool-order = refl
+
+-- `@ / B[-2] .MOD 5` pools -2, then 5
+pool-order-divided :
+    literalsOf (exprWords (Expr.chain [] Term.accumulator (Operation.binary Operator.divide (Cell.item b (Subscript.by (Operand.literal 65534))) ∷ Operation.binary Operator.modulo (Cell.plain five) ∷ [])) 0o1000)
+    ≡ 65534 ∷ 5 ∷ []
+unfolding computed
+pool-order-divided = refl
 
 -- a value once, at the place of its first use (K6)
 shared : addedAll (7 ∷ []) (5 ∷ 7 ∷ 6 ∷ 5 ∷ []) ≡ 7 ∷ 5 ∷ 6 ∷ []

@@ -4,9 +4,9 @@ use mathlib.Core.List.{List, [], _∷_}
 use mathlib.Core.Option.{Option, some, none}
 use lib.ListN.{length}
 use Rattle.prelude.specs.Choice.{given}
-use Rattle.word.specs.Shift.{LGR, ARS, ARR, LGL, ALS, ALR}
-use Rattle.instruction.specs.Opcode.{ADD, ANA, CAS, ERA, IRS, JST, LDA, LDX, STA, SUB}
-use Rattle.instruction.specs.Slot.{ACA, AOA, CAL, CAR, CHS, CMA, CRA, CSA, HLT, ICA, ICL, ICR, NOP, SKP, SLN, SLZ, SMI, SNZ, SPL, SRC, SS1, SS2, SS3, SS4, SSC, SSM, SSP, SSR, SSS, SZE, TCA}
+use Rattle.word.specs.Shift.{LGR, ARS, ARR, LGL, ALS, ALR, LRS, LLS}
+use Rattle.instruction.specs.Opcode.{ADD, ANA, CAS, DIV, ERA, IRS, JST, LDA, LDX, MPY, STA, SUB}
+use Rattle.instruction.specs.Slot.{ACA, AOA, CAL, CAR, CHS, CMA, CRA, CSA, HLT, IAB, ICA, ICL, ICR, NOP, SKP, SLN, SLZ, SMI, SNZ, SPL, SRC, SS1, SS2, SS3, SS4, SSC, SSM, SSP, SSR, SSS, SZE, TCA}
 use Rattle.tree.specs.Tree.{Id, Array, Operand, Subscript, Cell, Unary, Operator, Shift, Operation, Relation, Test, Bare, Expr, Term, Cond, Target, Stmt, Stmts}
 
 -- a word to be emitted, its operand not yet an address: a generic instruction, by its slot; a shift; a memory reference to an integer, a constant or a literal;
@@ -88,12 +88,27 @@ unfoldable pub unariesWords : List Unary → List Sym
 unariesWords [] = []
 unariesWords (u ∷ us) = unariesWords us ⧺ unaryWords u
 
--- the opcode of each operator (W6)
-unfoldable pub operatorOpcode : Operator → ℕ
-operatorOpcode Operator.add = ADD
-operatorOpcode Operator.subtract = SUB
-operatorOpcode Operator.and = ANA
-operatorOpcode Operator.nev = ERA
+-- an operator's instructions: the one on its cell, and what stands before and after it, on the registers alone
+pub record Operated : Type 0 where
+  pub before : List Plain
+  pub opcode : ℕ
+  pub after : List Plain
+
+abbrev alone : ℕ → Operated
+alone opcode = record { before = []; opcode = opcode; after = [] }
+
+-- those of each operator (W6, W18): LLS brings a product into A, LRS makes a double value of A to divide, IAB brings a remainder into A
+unfoldable pub operatorForm : Operator → Operated
+operatorForm Operator.add = alone ADD
+operatorForm Operator.subtract = alone SUB
+operatorForm Operator.and = alone ANA
+operatorForm Operator.nev = alone ERA
+operatorForm Operator.multiply = record { before = []; opcode = MPY; after = Plain.shift LLS 15 ∷ [] }
+operatorForm Operator.divide = record { before = Plain.shift LRS 15 ∷ []; opcode = DIV; after = [] }
+operatorForm Operator.modulo = record { before = Plain.shift LRS 15 ∷ []; opcode = DIV; after = Plain.generic IAB ∷ [] }
+
+abbrev pub operatorOpcode : Operator → ℕ
+operatorOpcode o = operatorForm o .opcode
 
 -- the shift of each shift word (W6)
 unfoldable pub shiftKind : Shift → ℕ
@@ -107,9 +122,9 @@ shiftKind Shift.alr = ALR
 abbrev pub shiftPlain : Shift → ℕ → Plain
 shiftPlain s n = Plain.shift (shiftKind s) n
 
--- an operation: the operator's instruction on its cell, or the shift by its amount (W6)
+-- an operation: what reaches its cell, then the operator's instruction on it, with what stands before and after; or the shift by its amount (W6, W18)
 unfoldable pub operationWords : Operation → List Sym
-operationWords (Operation.binary o c) = cellWords (operatorOpcode o) c
+operationWords (Operation.binary o c) = reachWords c ⧺ plainWords (operatorForm o .before) ⧺ instructionWord (operatorForm o .opcode) c ∷ plainWords (operatorForm o .after)
 operationWords (Operation.shift s n) = plainWords (shiftPlain s n ∷ [])
 
 -- operations, from left to right (W4)

@@ -8,6 +8,7 @@ use lib.ListN.{getD, set, replicate}
 use Rattle.word.specs.Arithmetic.{compareOf}
 use Rattle.instruction.specs.Table.{generics}
 use Rattle.instruction.specs.Decode.{findWord, genericOf, shiftOf, memoryOf, decodeDef}
+use Rattle.effect.specs.Double.{multiplyOf, divideOf, longLeftOf, longRightOf}
 use Rattle.effect.specs.Effects.{operateOf, unaryOf}
 use Rattle.effect.specs.Skips.{skipsOf}
 use Rattle.machine.specs.declared.Machine.{Machine}
@@ -140,8 +141,22 @@ rows =
       "a word that is no instruction fails with 20 after the steps before it",
       from 0 0o1000 ((0o1000, 0o101000) ∷ (0o1001, 0o026000) ∷ []) 5,
       to (Failed 20) 1 0 0o1001 [],
+    ) ∷
+    -- A and B together (I16 to I19)
+    (
+      "MPY with its tag adds X: 3 by the 4 at 205; LLS 15 brings the product into A",
+      from 3 0o1000 ((0, 5) ∷ (0o1000, 0o074200) ∷ (0o1001, 0o041161) ∷ (0o200, 9) ∷ (0o205, 4) ∷ []) 2,
+      to Spent 2 12 0o1002 [],
+    ) ∷ (
+      "LRS 15, DIV* through 200, IAB: what 7 by 2 leaves over",
+      from 7 0o1000 ((0o1000, 0o040161) ∷ (0o1001, 0o136200) ∷ (0o1002, 0o000201) ∷ (0o200, 0o300) ∷ (0o300, 2) ∷ []) 3,
+      to Spent 3 1 0o1003 [],
+    ) ∷ (
+      "LLS by 14 fails with 20",
+      from 7 0o1000 ((0o1000, 0o041162) ∷ []) 1,
+      to (Failed 20) 0 7 0o1000 [],
     ) ∷ []
 
 examples : map (λ (row : String × Before × After). shown (row .2 .words) (run (row .1))) rows ≡ map {B = After} (λ (row : String × Before × After). row .2) rows
-unfolding runDef runFrom stepDef decodeDef shiftOf genericOf findWord generics memoryOf followOf memoryDef genericDef operateOf unaryOf skipsOf compareOf
+unfolding runDef runFrom stepDef decodeDef shiftOf genericOf findWord generics memoryOf followOf memoryDef genericDef multiplyOf divideOf longLeftOf longRightOf operateOf unaryOf skipsOf compareOf
 examples = refl

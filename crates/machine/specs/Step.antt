@@ -36,7 +36,7 @@ incrementDef e m image =
     let w = (getD image e 0 + 1) % 65536 in
     state (onward m (bit (eqb w 0))) (set image e w)
 
--- a memory-reference instruction at its effective address e (I6, I7, I8)
+-- a memory-reference instruction at its effective address e (I6, I7, I8, I16, I17)
 unfoldable pub memoryDef : ℕ → ℕ → Machine → List ℕ → State
 memoryDef opcode e m image =
     let v = getD image e 0 in
@@ -49,7 +49,7 @@ memoryDef opcode e m image =
     (cond (eqb opcode LDX) (state (onward m 0) (set image 0 v))
     (state (onward (withRegisters m (operateOf opcode v (m .registers))) 0) image))))))
 
--- a generic instruction skips, or changes A and C, or neither (I10); HLT is a step too, and P goes on (R3)
+-- a generic instruction skips, or changes the registers, or neither (I10, I19); HLT is a step too, and P goes on (R3)
 unfoldable pub genericDef : ℕ → Machine → Machine
 genericDef slot m =
     cond (eqb slot HLT) (stopped (onward m 0))

@@ -8,14 +8,18 @@ use native.Mathlib.Nat.{le-add-right}
 use native.Mathlib.Omega.{arith}
 use lib.Dec.{T}
 use lib.ListN.{length, getD}
-use Rattle.instruction.specs.Opcode.{ADD, ANA, CAS, ERA, IRS, JST, LDA, LDX, STA, SUB, opcodes}
-use Rattle.instruction.specs.Slot.{CRA}
-use Rattle.instruction.specs.Table.{shiftKinds, generics, tableOf}
+use Rattle.instruction.specs.Opcode.{ADD, ANA, CAS, DIV, ERA, IRS, JST, LDA, LDX, MPY, STA, SUB, opcodes}
+use Rattle.word.specs.Shift.{LRS, LLS}
+use Rattle.instruction.specs.Slot.{CRA, IAB}
+use Rattle.instruction.specs.Table.{shortKinds, longKinds, generics, tableOf}
+use Rattle.instruction.specs.Encode.{shiftWord, Encodes}
+use Rattle.instruction.specs.declared.Instruction.the-variants.{Shift}
 use Rattle.instruction.specs.Decode.{findWord, genericOf, isIn, shiftOf, memoryOf, decodeDef}
 use Rattle.instruction.proofs.Members.{in-member}
 use Rattle.instruction.proofs.Rows.{isAt}
-use Rattle.tree.specs.Tree.{Id, Array, Operand, Subscript, Cell, Unary, Operator, Shift, Operation, Test, Bare, Expr, Term, Cond, Target, Stmt, Stmts}
-use Rattle.layout.specs.Words.{Sym, _⧺_, after, subscriptWords, reachWords, instructionWord, cellWords, unaryWords, unariesWords, operatorOpcode, shiftKind, operationWords, operationsWords, testSlot, bareSlot, Control, controls, controlWord, controlWords, exprEnd, termEnd, condEnd, targetCell, stmtEnd, stmtsEnd, exprWords, termWords, condWords, stmtWords, stmtsWords}
+use Rattle.tree.specs.Tree as tree
+use Rattle.tree.specs.Tree.{Id, Array, Operand, Subscript, Cell, Unary, Operator, Operation, Test, Bare, Expr, Term, Cond, Target, Stmt, Stmts}
+use Rattle.layout.specs.Words.{Sym, _⧺_, after, subscriptWords, reachWords, instructionWord, cellWords, plainWords, unaryWords, unariesWords, Operated, operatorForm, shiftKind, operationWords, operationsWords, testSlot, bareSlot, Control, controls, controlWord, controlWords, exprEnd, termEnd, condEnd, targetCell, stmtEnd, stmtsEnd, exprWords, termWords, condWords, stmtWords, stmtsWords}
 use Rattle.parsing_laws.specs.WellFormed.{Kind, Context, IdOk, OperandOk, ArrayOk, ProcedureOk, CellOk, OperationsOk, TermOk, CondOk, ExprBy, ExprOk, TargetOk, StmtBy, StmtsBy, IsEmpty, StmtOk}
 use Rattle.layout_laws.proofs.Spans.{Span, span-expr, span-cond, span-stmt, span-stmts, span-end, along}
 
@@ -33,7 +37,7 @@ SlotOk slot = T (isAt slot (decodeDef (getD tableOf slot 0)))
 -- jumps go to addresses from lo to hi
 abbrev pub WordOk : Context → ℕ → ℕ → Sym → Type 0
 WordOk x lo hi (Sym.generic slot) = SlotOk slot
-WordOk x lo hi (Sym.shift kind n) = List·Memᴰ kind shiftKinds × (1 ≤ n) × (n ≤ 15)
+WordOk x lo hi (Sym.shift kind n) = Encodes (Shift kind n) (shiftWord kind n)
 WordOk x lo hi (Sym.memory code o) = OpcodeOk code × OperandOk x o
 WordOk x lo hi (Sym.through code n) = OpcodeOk code × (n < length (x .globals))
 WordOk x lo hi (Sym.jump z) = (lo ≤ z) × (z ≤ hi)
@@ -105,30 +109,46 @@ module _ (x : Context) (lo hi : ℕ) where
   unaries [] = none
   unaries (u ∷ us) = both (unaries us) (unary u)
 
-  operator : (o : Operator) → OpcodeOk (operatorOpcode o)
-  unfolding operatorOpcode
-  operator Operator.add = plain-code ADD refl
-  operator Operator.subtract = plain-code SUB refl
-  operator Operator.and = plain-code ANA refl
-  operator Operator.nev = plain-code ERA refl
+  long-shift : (kind : ℕ) → isIn kind longKinds ≡ true → A (Sym.shift kind 15 ∷ [])
+  long-shift kind e = word {w = Sym.shift kind 15} (Encodes.long (in-member kind longKinds e)) none
 
-  is-kind : (s : Shift) → isIn (shiftKind s) shiftKinds ≡ true
+  record FormOk (form : Operated) : Type 0 where
+    before : A (plainWords (form .before))
+    code : OpcodeOk (form .opcode)
+    after : A (plainWords (form .after))
+
+  alone : (code : ℕ) → isIn code opcodes ≡ true → FormOk (record { before = []; opcode = code; after = [] })
+  alone code e = record { before = none; code = plain-code code e; after = none }
+
+  operator : (o : Operator) → FormOk (operatorForm o)
+  unfolding operatorForm isAt decodeDef genericOf findWord generics shiftOf memoryOf tableOf
+  operator Operator.add = alone ADD refl
+  operator Operator.subtract = alone SUB refl
+  operator Operator.and = alone ANA refl
+  operator Operator.nev = alone ERA refl
+  operator Operator.multiply = record { before = none; code = plain-code MPY refl; after = long-shift LLS refl }
+  operator Operator.divide = record { before = long-shift LRS refl; code = plain-code DIV refl; after = none }
+  operator Operator.modulo = record { before = long-shift LRS refl; code = plain-code DIV refl; after = word {w = Sym.generic IAB} tt none }
+
+  is-kind : (s : tree.Shift) → isIn (shiftKind s) shortKinds ≡ true
   unfolding shiftKind
-  is-kind Shift.lgr = refl
-  is-kind Shift.ars = refl
-  is-kind Shift.arr = refl
-  is-kind Shift.lgl = refl
-  is-kind Shift.als = refl
-  is-kind Shift.alr = refl
+  is-kind tree.Shift.lgr = refl
+  is-kind tree.Shift.ars = refl
+  is-kind tree.Shift.arr = refl
+  is-kind tree.Shift.lgl = refl
+  is-kind tree.Shift.als = refl
+  is-kind tree.Shift.alr = refl
 
-  shift-kind : (s : Shift) → List·Memᴰ (shiftKind s) shiftKinds
-  shift-kind s = in-member (shiftKind s) shiftKinds (is-kind s)
+  shift-kind : (s : tree.Shift) → List·Memᴰ (shiftKind s) shortKinds
+  shift-kind s = in-member (shiftKind s) shortKinds (is-kind s)
 
   operations : (os : List Operation) → OperationsOk x os → A (operationsWords os)
   unfolding operationsWords operationWords
   operations [] h = none
-  operations (Operation.binary o c ∷ os) h = both (cell (operatorOpcode o) c (operator o) (h .0)) (operations os (h .1))
-  operations (Operation.shift s n ∷ os) h = both (word {w = Sym.shift (shiftKind s) n} (shift-kind s, h .0 .0, h .0 .1) none) (operations os (h .1))
+  operations (Operation.binary o c ∷ os) h =
+      let ok = operator o in
+      both (both (reaching c (h .0)) (both (ok .before) (word {w = instructionWord (operatorForm o .opcode) c} (order (operatorForm o .opcode) c (ok .code) (h .0)) (ok .after)))) (operations os (h .1))
+  operations (Operation.shift s n ∷ os) h = both (word {w = Sym.shift (shiftKind s) n} (Encodes.shift (shift-kind s) (h .0 .0) (h .0 .1)) none) (operations os (h .1))
 
   test-slot : (t : Test) → SlotOk (testSlot t)
   unfolding testSlot isAt decodeDef genericOf findWord generics shiftOf memoryOf tableOf

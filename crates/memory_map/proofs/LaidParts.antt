@@ -1,7 +1,7 @@
 -- Where each symbolic word stands in the map, the parts do, as the relations of specs/Laid say.
 use Prim.Native.Nat.{ℕ, zero, suc, _+_}
 use mathlib.Core.Path.{_≡_, refl, sym, subst, _∙_}
-use mathlib.Core.Bool.{true, false}
+use mathlib.Core.Bool.{Bool, true, false}
 use mathlib.Core.List.{List, [], _∷_}
 use native.Mathlib.Nat.{zero-add, add-suc, suc-add}
 use mathlib.Core.Option.{Option}
@@ -11,7 +11,7 @@ use Rattle.instruction.specs.Opcode.{JMP, LDA, STA, JST, CAS, IRS, LDX}
 use Rattle.instruction.specs.Slot.{SPL, TCA}
 use Rattle.instruction.specs.declared.Instruction.the-variants.{Shift, Generic}
 use Rattle.tree.specs.Tree.{Id, CellId, Array, Operand, Subscript, Cell, Unary, Operation, Expr, Term, Cond, Target, Stmt, Stmts}
-use Rattle.layout.specs.Words.{Sym, _⧺_, Plain, plainWords, unaryPlain, shiftPlain, after, subscriptWords, reachWords, instructionWord, cellWords, unaryWords, unariesWords, operatorOpcode, operationWords, operationsWords, Control, controls, controlWord, controlWords, exprEnd, termEnd, condEnd, targetCell, stmtEnd, stmtsEnd, exprWords, termWords, condWords, stmtWords, stmtsWords}
+use Rattle.layout.specs.Words.{Sym, _⧺_, Plain, plainWords, unaryPlain, shiftPlain, after, subscriptWords, reachWords, instructionWord, cellWords, unaryWords, unariesWords, operatorForm, operationWords, operationsWords, Control, controls, controlWord, controlWords, exprEnd, termEnd, condEnd, targetCell, stmtEnd, stmtsEnd, exprWords, termWords, condWords, stmtWords, stmtsWords}
 use Rattle.layout.specs.Map.{Role}
 use Rattle.memory_map.specs.Laid.{Map, Sits, Refers, Direct, named, ArrayWord, ProcedureWord, Known, Knows, LaidSubscript, LaidCell, LaidOn, LaidJump, LaidCall, LaidPlain, LaidUnary, LaidUnaries, LaidOperations, controlSits, LaidControls, LaidExpr, LaidTerm, LaidCond, LaidStmt, LaidStmts}
 use Rattle.parsing_laws.specs.WellFormed.{Context, ArrayOk, ProcedureOk, CellOk, OperationsOk, TermOk, CondOk, ExprBy, ExprOk, TargetOk, StmtBy, StmtsBy, IsEmpty, StmtOk}
@@ -121,28 +121,42 @@ module _ (M : Map) (ps : Known) (x : Context) (g : Globals M ps x) (once : (k l 
     (x-at : M 0 ≡ Role.cell (CellId.named Id.x) 0) where
   -- ---- Cells and operations
 
-  -- what reaches a cell, and then the instruction on it
-  reached : (code : ℕ) (c : Cell) (a m : ℕ) → CellOk x c → Span a (reachWords c) m → Covers M a (reachWords c) → Stands M m (instructionWord code c) → LaidOn M code c a (suc m)
+  -- what reaches a cell, and the instruction on it, right behind that or later
+  record Reached (code : ℕ) (c : Cell) (a m n : ℕ) : Type 0 where
+    indirect : Bool
+    at : ℕ
+    cell : LaidCell M c a m indirect at
+    refers : Refers M n code indirect at
+
+  reached : (code : ℕ) (c : Cell) (a m n : ℕ) → CellOk x c → Span a (reachWords c) m → Covers M a (reachWords c) → Stands M n (instructionWord code c) → Reached code c a m n
   unfolding reachWords instructionWord
-  reached code (Cell.plain o) a m h Span.none k s = LaidOn.on (LaidCell.plain (s .direct)) (s .refers)
-  reached code (Cell.item r s) a m h p k t = LaidOn.on (LaidCell.item (subscript M r s a m p k) (g .arrays r (h .0))) t
+  reached code (Cell.plain o) a m n h Span.none k s = record { indirect = false; at = s .at; cell = LaidCell.plain (s .direct); refers = s .refers }
+  reached code (Cell.item r s) a m n h p k t = record { indirect = true; at = 0o200 + r .number; cell = LaidCell.item (subscript M r s a m p k) (g .arrays r (h .0)); refers = t }
 
   on-cell : (code : ℕ) (c : Cell) (a : ℕ) → CellOk x c → Covers M a (cellWords code c) → LaidOn M code c a (after (cellWords code c) a)
   unfolding cellWords
   on-cell code c a h k =
       let p = along (reachWords c) a in
       let q = split M p k in
-      subst (LaidOn M code c a) (same (join p (Span.word Span.none)) (along (reachWords c ⧺ instructionWord code c ∷ []) a)) (reached code c a _ h p (q .0) (first M (q .1)))
+      let r = reached code c a _ _ h p (q .0) (first M (q .1)) in
+      subst (LaidOn M code c a) (same (join p (Span.word Span.none)) (along (reachWords c ⧺ instructionWord code c ∷ []) a)) (LaidOn.on (r .cell) (r .refers))
 
   operations : (os : List Operation) (a b : ℕ) → OperationsOk x os → Span a (operationsWords os) b → Covers M a (operationsWords os) → LaidOperations M os a b
   unfolding operationsWords operationWords
   operations [] a b h Span.none k = LaidOperations.none
   operations (Operation.binary o c ∷ os) a b h p k =
-      let q = split M (along (cellWords (operatorOpcode o) c) a) k in
-      let m = after (cellWords (operatorOpcode o) c) a in
-      LaidOperations.binary (on-cell (operatorOpcode o) c a (h .0) (q .0))
-      (subst (LaidOperations M os m) (same (join (along (cellWords (operatorOpcode o) c) a) (along (operationsWords os) m)) p)
-      (operations os m (after (operationsWords os) m) (h .1) (along (operationsWords os) m) (q .1)))
+      let before = plainWords (operatorForm o .before) in
+      let behind = plainWords (operatorForm o .after) in
+      let m = after (reachWords c) a in
+      let n = after before m in
+      let l = after behind (suc n) in
+      let whole = join (along (reachWords c) a) (join (along before m) (Span.word (along behind (suc n)))) in
+      let q = split M whole k in
+      let r = split M (along (reachWords c) a) (q .0) in
+      let s = split M (along before m) (r .1) in
+      let i = reached (operatorForm o .opcode) c a m n (h .0) (along (reachWords c) a) (r .0) (first M (s .1)) in
+      LaidOperations.binary (i .cell) (plain M (operatorForm o .before) m n (along before m) (s .0)) (i .refers) (plain M (operatorForm o .after) (suc n) l (along behind (suc n)) (rest M (s .1)))
+      (subst (LaidOperations M os l) (same (join whole (along (operationsWords os) l)) p) (operations os l (after (operationsWords os) l) (h .1) (along (operationsWords os) l) (q .1)))
   operations (Operation.shift s n ∷ os) a b h p k =
       let q = split M (Span.word Span.none) k in
       LaidOperations.shift (plain M (shiftPlain s n ∷ []) a (suc a) (Span.word Span.none) (q .0))

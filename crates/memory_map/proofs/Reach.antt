@@ -11,7 +11,7 @@ use borrow.Author.Tests.{lt-leb, leb-false}
 use Rattle.instruction.specs.Opcode.{JMP}
 use Rattle.instruction.specs.Table.{tableOf}
 use Rattle.instruction.specs.Decode.{decodeDef}
-use Rattle.instruction.specs.Encode.{shiftWord, memory, loadX, shift}
+use Rattle.instruction.specs.Encode.{shiftWord, memory, loadX}
 use Rattle.instruction.specs.declared.Instruction.the-variants.{Memory}
 use Rattle.instruction.proofs.Rows.{is-at}
 use Rattle.instruction.proofs.Encoding.{not-loadX, encoded}
@@ -78,7 +78,7 @@ module _ (M : Map) (f : Frame) (x : Context) (s lo hi : ℕ) (low : 512 * s ≤ 
   one : (w : Sym) (a : ℕ) (vs : List ℕ) → WordOk x lo hi w → Literals (literalOf w vs) → suc a < 16384 → lo ≤ a → a ≤ hi → M a ≡ Role.fixed (wordOf f w) → Stands M a w
   unfolding wordOf
   one (Sym.generic slot) a vs h l below p q e = record { below = below; word = getD tableOf slot 0; here = e; decodes = is-at slot (decodeDef (getD tableOf slot 0)) h }
-  one (Sym.shift kind n) a vs h l below p q e = record { below = below; word = shiftWord kind n; here = e; decodes = encoded (shift (h .0) (h .1) (h .2)) }
+  one (Sym.shift kind n) a vs h l below p q e = record { below = below; word = shiftWord kind n; here = e; decodes = encoded h }
   one (Sym.memory code o) a vs h l below p q e =
       let d = operand o code vs (h .1) l in
       record { at = addressOf f o; refers = refers M a code (addressOf f o) false (h .0) below (subst (λ (n : ℕ). Near n (addressOf f o)) (sym (in-sector s a lo hi low p q high)) (d .1)) e; direct = d .0 }

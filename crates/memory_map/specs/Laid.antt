@@ -14,7 +14,7 @@ use Rattle.instruction.specs.declared.Instruction.the-variants.{Memory, Shift, 
 use Rattle.machine.specs.Address.{baseOf}
 use Rattle.tree.specs.Tree.{Id, CellId, Array, Operand, Subscript, Cell, Unary, Operation, Expr, Term, Cond, Target, Stmt, Stmts, isInside}
 use Rattle.tree.specs.Tree as tree
-use Rattle.layout.specs.Words.{Plain, Control, unaryPlain, operatorOpcode, shiftPlain, testSlot, bareSlot, controls, targetCell}
+use Rattle.layout.specs.Words.{Plain, Control, unaryPlain, operatorForm, shiftPlain, testSlot, bareSlot, controls, targetCell}
 use Rattle.layout.specs.Map.{Role}
 use Rattle.layout.specs.Addresses.{memoryWords}
 
@@ -108,11 +108,11 @@ module _ (M : Map) where
     none : {a : ℕ} → LaidUnaries [] a a
     more : {u : Unary} {us : List Unary} {a m b : ℕ} → LaidUnaries us a m → LaidUnary u m b → LaidUnaries (u ∷ us) a b
 
-  -- operations from left to right (W4, W6)
+  -- operations from left to right (W4, W6, W18)
   pub data LaidOperations : List Operation → ℕ → ℕ → Type 0 where
     none : {a : ℕ} → LaidOperations [] a a
-    binary : {o : tree.Operator} {c : Cell} {os : List Operation} {a m b : ℕ} → LaidOn (operatorOpcode o) c a m → LaidOperations os m b
-        → LaidOperations (Operation.binary o c ∷ os) a b
+    binary : {o : tree.Operator} {c : Cell} {os : List Operation} {a m n l b k : ℕ} {indirect : Bool} → LaidCell c a m indirect k → LaidPlain (operatorForm o .before) m n
+        → Refers M n (operatorForm o .opcode) indirect k → LaidPlain (operatorForm o .after) (suc n) l → LaidOperations os l b → LaidOperations (Operation.binary o c ∷ os) a b
     shift : {s : tree.Shift} {n a m b : ℕ} {os : List Operation} → LaidPlain (shiftPlain s n ∷ []) a m → LaidOperations os m b
         → LaidOperations (Operation.shift s n ∷ os) a b
 

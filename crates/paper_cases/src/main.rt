@@ -1,4 +1,4 @@
-// Cases of the compiler by name, those that proved_cases does not have (K5, K6, and F1 to F3): the listing of each, what is left in the image
+// Cases of the compiler by name, those that proved_cases does not have (K5 to K7, and F1 to F3): the listing of each, what is left in the image
 // and in scratch, and how the image of an accepted one runs.
 use case_input::parse_number;
 use case_input::part_end;
@@ -66,7 +66,10 @@ fn run(image: &mut [u16], entry: u16) {
         print(b"run=other\n");
     }
     print_number(b"steps=", report.steps);
-    print_number(b"a=", report.machine.registers.a as u32);
+    let left = report.machine.registers;
+    print_number(b"a=", left.a as u32);
+    print_number(b"b=", left.b as u32);
+    print_number(b"c=", if left.c { 1 } else { 0 });
 }
 
 // Answers whether an image was emitted.

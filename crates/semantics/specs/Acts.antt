@@ -74,8 +74,12 @@ reach (Cell.item a s) σ = bind (entered a s σ) asPlace
 
 -- ---- What is done with them
 
+-- an instruction with a cell
+abbrev pub operatedOn : ℕ → Place → State → State
+operatedOn opcode p σ = withRegisters σ (operateOf opcode (valueOf p σ) (σ .registers))
+
 unfoldable pub operate : ℕ → Place → State → Trace (Unit {0})
-operate opcode p σ = Trace.done tt (withRegisters σ (operateOf opcode (valueOf p σ) (σ .registers)))
+operate opcode p σ = Trace.done tt (operatedOn opcode p σ)
 
 unfoldable pub storeA : CellId → State → Trace (Unit {0})
 storeA i σ = Trace.done tt (store i (σ .registers .a) σ)

@@ -2,10 +2,11 @@
 use Prim.Native.Nat.{ℕ}
 use Prim.Native.String.{String}
 use mathlib.Core.Path.{_≡_, refl}
-use mathlib.Core.Bool.{false}
+use mathlib.Core.Bool.{Bool, true, false}
 use mathlib.Core.List.{List, [], _∷_, map}
 use Rattle.word.specs.Arithmetic.{compareOf, sumOf, differenceOf}
 use Rattle.word.specs.Shift.{shiftOf, signChanges}
+use Rattle.effect.specs.Double.{multiplyOf, divideOf, longLeftOf, longRightOf}
 use Rattle.effect.specs.Effects.{operateOf, unaryOf}
 use Rattle.effect.specs.Skips.{skipsOf}
 use Rattle.source.specs.Bytes.{bytes}
@@ -15,12 +16,12 @@ use Rattle.grammar.specs.Program.{parseProgram}
 use Rattle.grammar.specs.Computed as grammar
 use Rattle.semantics.specs.Trace.{State, Trace, bind, next, ended}
 use Rattle.semantics.specs.Acts.{updated, placeOf, valueOf, subscripted, element, entered, asPlace, reach, operate, storeA, setX, absolute, test, jump, counted}
-use Rattle.semantics.specs.Meaning.{unaryOn, unariesOn, operationOn, operationsOn, called, chosen, orderOf, holds, wordsAfter, ticks, related, whileTurns, forTurns, assigned, stmtsBy, termBy, condBy, exprBy, exprAt, bodyBy, stmtAt, withDeclaration, proceduresFrom, proceduresOf, meaning}
+use Rattle.semantics.specs.Meaning.{unaryOn, unariesOn, operatorOn, operationOn, operationsOn, called, chosen, orderOf, holds, wordsAfter, ticks, related, whileTurns, forTurns, assigned, stmtsBy, termBy, condBy, exprBy, exprAt, bodyBy, stmtAt, withDeclaration, proceduresFrom, proceduresOf, meaning}
 use Rattle.tree.specs.Symbols.{globalsOf, wordsTaken}
 
 -- every definition that a meaning rests on, listed once
 unfoldable pub computed : ℕ → Program → State → Trace (Unit {0})
-unfolding grammar.computed compareOf sumOf differenceOf shiftOf signChanges operateOf unaryOf skipsOf sameId sameCell bind next ended updated placeOf valueOf subscripted isInside element entered asPlace reach operate storeA setX absolute test jump counted unaryOn unariesOn operationOn operationsOn called chosen orderOf holds wordsAfter ticks related whileTurns forTurns assigned stmtsBy termBy condBy exprBy exprAt bodyBy stmtAt globalsOf withDeclaration proceduresFrom proceduresOf meaning wordsTaken
+unfolding grammar.computed compareOf sumOf differenceOf shiftOf signChanges multiplyOf divideOf longLeftOf longRightOf operateOf unaryOf skipsOf sameId sameCell bind next ended updated placeOf valueOf subscripted isInside element entered asPlace reach operate storeA setX absolute test jump counted unaryOn unariesOn operatorOn operationOn operationsOn called chosen orderOf holds wordsAfter ticks related whileTurns forTurns assigned stmtsBy termBy condBy exprBy exprAt bodyBy stmtAt globalsOf withDeclaration proceduresFrom proceduresOf meaning wordsTaken
 computed f p σ = meaning f p σ
 
 pub data Ending : Type 0 where
@@ -107,3 +108,60 @@ rows =
 examples : map (λ row. shown 3 start (parseProgram (bytes (row .0)))) rows ≡ map {B = List ℕ × Ending} (λ row. (row .1, row .2)) rows
 unfolding computed
 examples = refl
+
+-- ---- `*`, `/` and `.MOD`, with B and C at the end (M4)
+
+abbrev pub atEnd : Trace (Unit {0}) → State
+atEnd (Trace.done u σ) = σ
+atEnd (Trace.broke σ) = σ
+atEnd (Trace.out σ) = σ
+atEnd (Trace.observe m t) = atEnd t
+
+abbrev left : Got Program → ℕ × Bool
+left (Got.got p next) = (atEnd (meaning 3 p start) .registers .b, atEnd (meaning 3 p start) .registers .c)
+left (Got.failed n at) = (n, false)
+
+abbrev doubles : List (String × List ℕ × Ending × ℕ × Bool)
+doubles =
+    -- MPY, LLS; LRS, DIV; LRS, DIV, IAB
+    (".BEGIN @ = @ * 3 .END", 0 ∷ 2 ∷ [], Ending.done 2 21 0, 0, false) ∷
+    (".BEGIN @ = @ / 2 .END", 0 ∷ 2 ∷ [], Ending.done 2 3 0, 1, false) ∷
+    (".BEGIN @ = @ .MOD 4 .END", 0 ∷ 3 ∷ [], Ending.done 3 3 0, 1, false) ∷
+    -- -7 by 2 is -3, and -1 is left over; by -2 it is 3
+    (".BEGIN @ = .NEG @ / 2 .END", 0 ∷ 3 ∷ [], Ending.done 3 65533 0, 65535, false) ∷
+    (".BEGIN @ = .NEG @ .MOD 2 .END", 0 ∷ 4 ∷ [], Ending.done 4 65535 0, 65533, false) ∷
+    (".BEGIN @ = .NEG @ .MOD-2 .END", 0 ∷ 4 ∷ [], Ending.done 4 65535 0, 3, false) ∷
+    (".BEGIN @ = @ .MOD -2 .END", 0 ∷ 3 ∷ [], Ending.done 3 1 0, 65533, false) ∷
+    -- by 0 A and B stay as LRS left them, and C is set: 7 / 0 is 0, -7 / 0 is -1, 7 .MOD 0 is 7
+    (".BEGIN @ = @ / 0 .END", 0 ∷ 2 ∷ [], Ending.done 2 0 0, 7, true) ∷
+    (".BEGIN @ = .NEG @ / 0 .END", 0 ∷ 3 ∷ [], Ending.done 3 65535 0, 32761, true) ∷
+    (".BEGIN @ = @ .MOD 0 .END", 0 ∷ 3 ∷ [], Ending.done 3 7 0, 0, true) ∷
+    (".BEGIN @ = .NEG @ .MOD 0 .END", 0 ∷ 4 ∷ [], Ending.done 4 32761 0, 65535, true) ∷
+    -- the one quotient of two words that is outside, and quotients at both ends
+    (".BEGIN @ = -32768 / -1 .END", 0 ∷ 3 ∷ [], Ending.done 3 65535 0, 0, true) ∷
+    (".BEGIN @ = -32768 .MOD -1 .END", 0 ∷ 4 ∷ [], Ending.done 4 0 0, 65535, true) ∷
+    (".BEGIN @ = -32768 / 1 .END", 0 ∷ 3 ∷ [], Ending.done 3 32768 0, 0, false) ∷
+    (".BEGIN @ = 32767 / -1 .END", 0 ∷ 3 ∷ [], Ending.done 3 32769 0, 0, false) ∷
+    -- products outside, C set; the next one inside clears it
+    (".BEGIN @ = -32768 * -32768 .END", 0 ∷ 3 ∷ [], Ending.done 3 0 0, 0, true) ∷
+    (".BEGIN @ = 200 * 200 .END", 0 ∷ 3 ∷ [], Ending.done 3 40000 0, 0, true) ∷
+    (".BEGIN @ = 200 * 200 * 0 .END", 0 ∷ 5 ∷ [], Ending.done 5 0 0, 0, false) ∷
+    (".BEGIN @ = -256 * 128 .END", 0 ∷ 3 ∷ [], Ending.done 3 32768 0, 0, false) ∷
+    -- from left to right: 30000, 4285, 285; with the others 21, 10, 2, 3; and 8, 24, 20, 10
+    (".BEGIN .INTEGER A; A = 300 * 100 / 7 .MOD 1000 .END", 0 ∷ 9 ∷ [], Ending.done 9 285 0, 4, false) ∷
+    (".BEGIN @ = @ * 3 / 2 .MOD 4 + 1 .END", 0 ∷ 8 ∷ [], Ending.done 8 3 0, 2, false) ∷
+    (".BEGIN @ = @ + 1 * 3 - 4 / 2 .END", 0 ∷ 6 ∷ [], Ending.done 6 10 0, 0, false) ∷
+    -- an element: LDX, LRS, DIV; outside its array A and B stay as before the LRS, which would make them 0 and 7
+    (".BEGIN .ARRAY T[1]; T[-1] = 3; @ = 20 / T[-1] .END", 0 ∷ 3 ∷ 7 ∷ [], Ending.done 7 6 65535, 2, false) ∷
+    (".BEGIN .ARRAY T[1]; T[-1] = 3; @ = 20 .MOD T[#] .END", 0 ∷ 3 ∷ 7 ∷ [], Ending.done 7 2 65535, 6, false) ∷
+    (".BEGIN .ARRAY T[1]; T[-1] = 3; @ = 20 * T[#] .END", 0 ∷ 3 ∷ 6 ∷ [], Ending.done 6 60 65535, 0, false) ∷
+    (".BEGIN .ARRAY T[2]; @ = @ / T[5] .END", 0 ∷ [], Ending.broken 1 7 5, 0, false) ∷
+    (".BEGIN .ARRAY T[2]; @ = @ .MOD T[#] .END", 0 ∷ [], Ending.broken 0 7 0, 0, false) ∷
+    (".BEGIN .ARRAY T[2]; @ = @ * T[-3] .END", 0 ∷ [], Ending.broken 1 7 65533, 0, false) ∷ []
+
+-- among them the known cases (K7)
+double-examples :
+    map (λ row. (shown 3 start (parseProgram (bytes (row .0))), left (parseProgram (bytes (row .0))))) doubles
+    ≡ map {B = (List ℕ × Ending) × (ℕ × Bool)} (λ row. ((row .1, row .2), (row .3, row .4))) doubles
+unfolding computed
+double-examples = refl

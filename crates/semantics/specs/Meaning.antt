@@ -8,10 +8,10 @@ use Rattle.prelude.specs.Choice.{given}
 use Rattle.word.specs.Arithmetic.{compareOf}
 use Rattle.instruction.specs.Opcode.{LDA}
 use Rattle.instruction.specs.Slot.{CRA}
-use Rattle.tree.specs.Tree.{CellId, Unary, Operation, Relation, Expr, Term, Cond, Target, Stmt, Stmts, Declaration, Program}
-use Rattle.layout.specs.Words.{unaryPlain, operatorOpcode, shiftPlain, testSlot, bareSlot}
+use Rattle.tree.specs.Tree.{CellId, Unary, Operator, Operation, Relation, Expr, Term, Cond, Target, Stmt, Stmts, Declaration, Program}
+use Rattle.layout.specs.Words.{unaryPlain, operatorForm, shiftPlain, testSlot, bareSlot}
 use Rattle.semantics.specs.Trace.{State, Trace, bind, next, ended}
-use Rattle.semantics.specs.Acts.{Place, valueOf, tick, xCell, entered, reach, operate, storeA, setX, generic, absolute, plainOn, test, jump, counted}
+use Rattle.semantics.specs.Acts.{Place, valueOf, tick, xCell, entered, reach, operatedOn, operate, storeA, setX, generic, absolute, plainOn, test, jump, counted}
 use Rattle.tree.specs.Symbols.{globalsOf}
 
 -- ---- Expressions
@@ -25,9 +25,13 @@ unfoldable pub unariesOn : List Unary → State → State
 unariesOn [] σ = σ
 unariesOn (u ∷ us) σ = unaryOn u (unariesOn us σ)
 
+-- an operator with the operand: its instruction, and what stands before and after it (M4)
+unfoldable pub operatorOn : Operator → Place → State → Trace (Unit {0})
+operatorOn o p σ = Trace.done tt (plainOn (operatorForm o .after) (operatedOn (operatorForm o .opcode) p (plainOn (operatorForm o .before) σ)))
+
 -- an operation with its cell, which is reached first, or a shift (M4)
 unfoldable pub operationOn : Operation → State → Trace (Unit {0})
-operationOn (Operation.binary o c) σ = bind (reach c σ) (operate (operatorOpcode o))
+operationOn (Operation.binary o c) σ = bind (reach c σ) (operatorOn o)
 operationOn (Operation.shift s n) σ = Trace.done tt (plainOn (shiftPlain s n ∷ []) σ)
 
 -- from left to right (M4)

@@ -11,10 +11,10 @@ use Rattle.source.specs.Bytes.{bytes}
 use Rattle.tree.specs.Tree.{Id, CellId, Program}
 use Rattle.grammar.specs.Parse.{Got}
 use Rattle.grammar.specs.Program.{parseProgram}
-use Rattle.semantics.specs.Trace.{State, Trace}
+use Rattle.semantics.specs.Trace.{State}
 use Rattle.semantics.specs.Acts.{updated}
 use Rattle.semantics.specs.Meaning.{meaning}
-use Rattle.semantics.specs.Examples.{Ending, computed, shown}
+use Rattle.semantics.specs.Examples.{Ending, computed, shown, atEnd}
 
 -- cells by the integers and constants of the source, locals with the number of their procedure, and by the elements of its arrays
 abbrev x : CellId
@@ -50,24 +50,19 @@ pub record Row : Type 0 where
   pub fuel : ℕ
   pub numbers : List ℕ
   pub end : Ending
+  pub b : ℕ
   pub carry : Bool
   pub changed : List (CellId × ℕ)
 
 abbrev started : Row → State
 started row = row .start (row .words)
 
-abbrev last : Trace (Unit {0}) → State
-last (Trace.done u σ) = σ
-last (Trace.broke σ) = σ
-last (Trace.out σ) = σ
-last (Trace.observe m t) = last t
-
 -- B and C, and the words of all cells that had one at the start
 abbrev left : Row → State → ℕ × Bool × List ℕ
 left row σ = (σ .registers .b, σ .registers .c, map (λ w. σ .cells (w .0)) (row .words))
 
 abbrev leftBy : Row → Got Program → ℕ × Bool × List ℕ
-leftBy row (Got.got p next) = left row (last (meaning (row .fuel) p (started row)))
+leftBy row (Got.got p next) = left row (atEnd (meaning (row .fuel) p (started row)))
 leftBy row (Got.failed n at) = (0, false, [])
 
 abbrev rows : List Row
@@ -80,6 +75,7 @@ rows =
       fuel = 1;
       numbers = 0 ∷ 0 ∷ [];
       end = Ending.done 0 51796 1;
+      b = 36890;
       carry = true;
       changed = [];
     } ∷
@@ -91,6 +87,7 @@ rows =
       fuel = 1;
       numbers = 0 ∷ 3 ∷ [];
       end = Ending.done 3 17829 17829;
+      b = 15583;
       carry = false;
       changed = (x, 17829) ∷ [];
     } ∷
@@ -102,6 +99,7 @@ rows =
       fuel = 1;
       numbers = 0 ∷ 5 ∷ 10 ∷ [];
       end = Ending.done 10 161 65528;
+      b = 37248;
       carry = false;
       changed = (global 0, 161) ∷ [];
     } ∷
@@ -113,6 +111,7 @@ rows =
       fuel = 1;
       numbers = 0 ∷ 1 ∷ 3 ∷ 4 ∷ [];
       end = Ending.broken 5 6 1;
+      b = 46517;
       carry = true;
       changed = (x, 1) ∷ (item 0 65534, 5) ∷ [];
     } ∷
@@ -124,6 +123,7 @@ rows =
       fuel = 1;
       numbers = 0 ∷ 1 ∷ 2 ∷ 3 ∷ [];
       end = Ending.broken 3 3 3;
+      b = 2293;
       carry = true;
       changed = (x, 3) ∷ [];
     } ∷
@@ -135,6 +135,7 @@ rows =
       fuel = 1;
       numbers = 0 ∷ 1 ∷ [];
       end = Ending.broken 2 9 65535;
+      b = 23541;
       carry = false;
       changed = (x, 65535) ∷ [];
     } ∷
@@ -146,6 +147,7 @@ rows =
       fuel = 1;
       numbers = 0 ∷ 2 ∷ [];
       end = Ending.broken 7 29872 5;
+      b = 13769;
       carry = false;
       changed = (x, 5) ∷ (global 0, 65535) ∷ [];
     } ∷
@@ -157,6 +159,7 @@ rows =
       fuel = 1;
       numbers = 0 ∷ 2 ∷ [];
       end = Ending.broken 5 37079 32767;
+      b = 53219;
       carry = true;
       changed = (x, 32767) ∷ (global 0, 32767) ∷ [];
     } ∷
@@ -168,6 +171,7 @@ rows =
       fuel = 1;
       numbers = 0 ∷ [];
       end = Ending.broken 4 65530 65530;
+      b = 56014;
       carry = true;
       changed = (x, 65530) ∷ (global 0, 65530) ∷ [];
     } ∷
@@ -179,6 +183,7 @@ rows =
       fuel = 3;
       numbers = 0 ∷ 4 ∷ 8 ∷ 12 ∷ 13 ∷ [];
       end = Ending.done 13 0 65535;
+      b = 65338;
       carry = false;
       changed = (x, 65535) ∷ (global 0, 0) ∷ [];
     } ∷
@@ -190,6 +195,7 @@ rows =
       fuel = 1;
       numbers = 0 ∷ 2 ∷ 4 ∷ [];
       end = Ending.done 4 65533 65534;
+      b = 25131;
       carry = true;
       changed = (global 0, 65533) ∷ [];
     } ∷
@@ -201,6 +207,7 @@ rows =
       fuel = 4;
       numbers = 0 ∷ 5 ∷ 10 ∷ 13 ∷ 13 ∷ 19 ∷ 22 ∷ 22 ∷ 28 ∷ 31 ∷ 31 ∷ 35 ∷ 35 ∷ 35 ∷ 37 ∷ [];
       end = Ending.done 37 0 3;
+      b = 32468;
       carry = false;
       changed = (global 1, 0) ∷ (global 2, 0) ∷ [];
     } ∷
@@ -212,6 +219,7 @@ rows =
       fuel = 3;
       numbers = 0 ∷ 4 ∷ 9 ∷ 14 ∷ 15 ∷ 21 ∷ 22 ∷ [];
       end = Ending.done 22 65520 0;
+      b = 8990;
       carry = true;
       changed = (x, 0) ∷ (global 1, 0) ∷ [];
     } ∷
@@ -223,6 +231,7 @@ rows =
       fuel = 1;
       numbers = 0 ∷ 1 ∷ 9 ∷ 11 ∷ 11 ∷ [];
       end = Ending.done 11 1 32769;
+      b = 49166;
       carry = true;
       changed = (x, 32769) ∷ [];
     } ∷
@@ -234,6 +243,7 @@ rows =
       fuel = 1;
       numbers = 0 ∷ 6 ∷ 8 ∷ [];
       end = Ending.done 8 43312 65531;
+      b = 55904;
       carry = true;
       changed = (global 0, 43312) ∷ [];
     } ∷
@@ -245,6 +255,7 @@ rows =
       fuel = 1;
       numbers = 0 ∷ 8 ∷ 8 ∷ 8 ∷ 13 ∷ 17 ∷ 19 ∷ 19 ∷ 24 ∷ 24 ∷ 25 ∷ 25 ∷ 25 ∷ 27 ∷ 27 ∷ 28 ∷ 28 ∷ 33 ∷ 36 ∷ [];
       end = Ending.done 36 40956 0;
+      b = 42150;
       carry = false;
       changed = (x, 0) ∷ (global 0, 40956) ∷ (global 1, 65530) ∷ (local 2 0, 1) ∷ [];
     } ∷
@@ -256,6 +267,7 @@ rows =
       fuel = 5;
       numbers = 0 ∷ 6 ∷ 10 ∷ 14 ∷ 18 ∷ 22 ∷ 23 ∷ 34 ∷ 35 ∷ 35 ∷ 39 ∷ [];
       end = Ending.done 39 17415 0;
+      b = 5876;
       carry = false;
       changed = (x, 0) ∷ (global 1, 48121) ∷ (global 4, 17415) ∷ [];
     } ∷
@@ -267,8 +279,69 @@ rows =
       fuel = 4;
       numbers = 0 ∷ 3 ∷ 4 ∷ 6 ∷ 8 ∷ 10 ∷ [];
       end = Ending.out 11 32769 65535;
+      b = 50915;
       carry = true;
       changed = (x, 65535) ∷ (item 6 65535, 32769) ∷ [];
+    } ∷
+    -- case 51: a product, a quotient and a remainder from left to right, each with an element; the last statement breaks off at its product
+    record {
+      source = ".BEGIN .INTEGER I; .ARRAY T[2](3,0); I = -2; @ = 1000 * T[I] / T[I] .MOD T[-1] * T[I]; @ = 7 * T[0] .END";
+      start = from 65532 59542 false (sense true false true false);
+      words = (x, 65534) ∷ (global 0, 45395) ∷ (item 1 65534, 65531) ∷ (item 1 65535, 255) ∷ [];
+      fuel = 1;
+      numbers = 0 ∷ 2 ∷ 16 ∷ [];
+      end = Ending.broken 18 7 0;
+      b = 0;
+      carry = false;
+      changed = (x, 0) ∷ (global 0, 65534) ∷ [];
+    } ∷
+    -- case 52: a quotient that breaks off at its subscript: A, B and C stay
+    record {
+      source = ".BEGIN .INTEGER I; .ARRAY T[2](3,0); I = 3; @ = -7; @ = @ / T[I] .END";
+      start = from 22916 29867 true (sense false true false true);
+      words = (x, 32768) ∷ (global 0, 13735) ∷ (item 1 65534, 11119) ∷ (item 1 65535, 32768) ∷ [];
+      fuel = 1;
+      numbers = 0 ∷ 2 ∷ 3 ∷ [];
+      end = Ending.broken 4 65529 3;
+      b = 29867;
+      carry = true;
+      changed = (x, 3) ∷ (global 0, 3) ∷ [];
+    } ∷
+    -- case 53: a remainder that breaks off at its subscript
+    record {
+      source = ".BEGIN .INTEGER I; .ARRAY T[2](3,0); I = -3; @ = -7; @ = @ .MOD T[I] .END";
+      start = from 65535 35941 false (sense true true false true);
+      words = (x, 9266) ∷ (global 0, 51909) ∷ (item 1 65534, 30363) ∷ (item 1 65535, 65535) ∷ [];
+      fuel = 1;
+      numbers = 0 ∷ 2 ∷ 3 ∷ [];
+      end = Ending.broken 4 65529 65533;
+      b = 35941;
+      carry = false;
+      changed = (x, 65533) ∷ (global 0, 65533) ∷ [];
+    } ∷
+    -- case 57: a quotient of a bracket in a conditional expression
+    record {
+      source = ".BEGIN.INTEGER\nWP24ZI,EG2K24IVI,GQF;EG2K24IVI=.IF\nWP24ZIT<>'10.THEN(.ICLEFT.SSM-7.NEV255)/WP24ZI7.ELSE.CRIGHT.CRIGHT  EG2K24IVI.MOD\nGQF.END";
+      start = from 14887 63691 false (sense false false true false);
+      words = (x, 36058) ∷ (global 0, 17212) ∷ (global 1, 65534) ∷ (global 2, 65280) ∷ [];
+      fuel = 1;
+      numbers = 0 ∷ 11 ∷ [];
+      end = Ending.done 11 0 36058;
+      b = 6;
+      carry = false;
+      changed = (global 1, 0) ∷ [];
+    } ∷
+    -- case 83: quotients in loops, of which the last are by 0, so that C is set
+    record {
+      source = ".BEGIN\n .INTEGER\n NUX ,  X9 , M3  ; M3  = X9\n / M3 ;  .FOR NUX\n =\n -002 .DO\n .FOR #  =\n -3 .DO\n M3 = (\n @ ) /\n M3 ;\nM3 =\n.ABS X9  .END";
+      start = from 3 58465 false (sense false false false true);
+      words = (x, 65535) ∷ (global 0, 32769) ∷ (global 1, 43667) ∷ (global 2, 65533) ∷ [];
+      fuel = 3;
+      numbers = 0 ∷ 4 ∷ 10 ∷ 15 ∷ 20 ∷ 21 ∷ 27 ∷ 32 ∷ 37 ∷ 38 ∷ 39 ∷ 43 ∷ [];
+      end = Ending.done 43 21869 0;
+      b = 0;
+      carry = true;
+      changed = (x, 0) ∷ (global 0, 0) ∷ (global 2, 21869) ∷ [];
     } ∷ []
 
 abbrev tree : Row → Got Program
@@ -278,6 +351,6 @@ examples : map (λ row. shown (row .fuel) (started row) (tree row)) rows ≡ map
 unfolding computed
 examples = refl
 
-all-left : map (λ row. leftBy row (tree row)) rows ≡ map {B = ℕ × Bool × List ℕ} (λ row. (started row .registers .b, row .carry, map (λ w. laid (started row .cells) (row .changed) (w .0)) (row .words))) rows
+all-left : map (λ row. leftBy row (tree row)) rows ≡ map {B = ℕ × Bool × List ℕ} (λ row. (row .b, row .carry, map (λ w. laid (started row .cells) (row .changed) (w .0)) (row .words))) rows
 unfolding computed
 all-left = refl

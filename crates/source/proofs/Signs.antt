@@ -127,11 +127,11 @@ module _ (s : List ℕ) (at c : ℕ) (h : at < length s) (q : c ≡ getD s (at +
 
 -- a byte that begins no sign
 pub none :
-    (b c : ℕ) → (b ≡ 60 → ⊥) → (b ≡ 62 → ⊥) → (b ≡ 61 → ⊥) → (b ≡ 59 → ⊥) → (b ≡ 44 → ⊥) → (b ≡ 43 → ⊥) → (b ≡ 40 → ⊥) → (b ≡ 41 → ⊥)
+    (b c : ℕ) → (b ≡ 60 → ⊥) → (b ≡ 62 → ⊥) → (b ≡ 61 → ⊥) → (b ≡ 59 → ⊥) → (b ≡ 44 → ⊥) → (b ≡ 43 → ⊥) → (b ≡ 42 → ⊥) → (b ≡ 47 → ⊥) → (b ≡ 40 → ⊥) → (b ≡ 41 → ⊥)
     → (b ≡ 91 → ⊥) → (b ≡ 93 → ⊥) → (b ≡ 64 → ⊥) → (b ≡ 35 → ⊥) → token Kinds.unknown 0 0 1 ≡ signToken (b ∷ c ∷ []) 0
 unfolding signToken find startsWith
-none b c n1 n2 n3 n4 n5 n6 n7 n8 n9 n10 n11 n12 =
-    simp (differs 60 n1, differs 62 n2, differs 61 n3, differs 59 n4, differs 44 n5, differs 43 n6, differs 40 n7, differs 41 n8, differs 91 n9, differs 93 n10, differs 64 n11, differs 35 n12)
+none b c n1 n2 n3 n4 n5 n6 n7 n8 n9 n10 n11 n12 n13 n14 =
+    simp (differs 60 n1, differs 62 n2, differs 61 n3, differs 59 n4, differs 44 n5, differs 43 n6, differs 42 n7, differs 47 n8, differs 40 n9, differs 41 n10, differs 91 n11, differs 93 n12, differs 64 n13, differs 35 n14)
   where
     differs : (x : ℕ) → (b ≡ x → ⊥) → eqb x b ≡ false
     differs x n = ne-eqb x b (λ q. n (sym q))

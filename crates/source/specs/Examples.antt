@@ -18,8 +18,8 @@ from n (suc k) = n ∷ from (suc n) k
 kinds-differ :
     (Kinds.endOfSource ∷ Kinds.unknown ∷ Kinds.outOfRange ∷ Kinds.name ∷ Kinds.numeral ∷ Kinds.semicolon ∷ Kinds.comma ∷ Kinds.equal ∷ Kinds.notEqual ∷ Kinds.less ∷ Kinds.greater ∷ Kinds.atMost ∷
     Kinds.atLeast ∷ Kinds.plus ∷ Kinds.minus ∷ Kinds.leftParenthesis ∷ Kinds.rightParenthesis ∷ Kinds.leftBracket ∷ Kinds.rightBracket ∷ Kinds.quote ∷ Kinds.at ∷ Kinds.hash ∷ [])
-    ++ map (λ row. row .1) keywords
-    ≡ from 0 74
+    ++ (map (λ row. row .1) keywords ++ (Kinds.star ∷ Kinds.slash ∷ []))
+    ≡ from 0 75 ++ (100 ∷ 101 ∷ [])
 kinds-differ = refl
 
 -- the tokens of a source: kind, value and offset of each. Its line lists what an example unfolds
@@ -37,7 +37,7 @@ knownOf [] = []
 knownOf (b ∷ bs) = whether (eqb (tokenAt (b ∷ []) 0 .kind) Kinds.unknown) (λ _. knownOf bs) (λ _. b ∷ knownOf bs)
 
 taken-longest :
-    tokensBy 99 (bytes "5A<>=<=>'18.LGL3-5- 5 -32768 40000\n*.FOO.SENSE12X'9 ") 0
+    tokensBy 99 (bytes "5A<>=<=>'18.LGL3-5- 5 -32768 40000\n!.FOO.SENSE12X'9 ") 0
     ≡ (Kinds.numeral, 5, 0) ∷ (Kinds.name, 0, 1) ∷ (Kinds.notEqual, 0, 2) ∷ (Kinds.equal, 0, 4) ∷ (Kinds.atMost, 0, 5) ∷ (Kinds.greater, 0, 7) ∷ (Kinds.numeral, 1, 8) ∷ (Kinds.numeral, 8, 10) ∷
     (Kinds.LGL, 0, 11) ∷ (Kinds.numeral, 3, 15) ∷ (Kinds.numeral, 65531, 16) ∷ (Kinds.minus, 0, 18) ∷ (Kinds.numeral, 5, 20) ∷ (Kinds.numeral, 32768, 22) ∷ (Kinds.outOfRange, 0, 29) ∷
     (Kinds.unknown, 0, 35) ∷ (Kinds.unknown, 0, 36) ∷ (Kinds.SENSE1, 0, 40) ∷ (Kinds.numeral, 2, 47) ∷ (Kinds.name, 0, 48) ∷ (Kinds.quote, 0, 49) ∷ (Kinds.numeral, 9, 50) ∷ []
@@ -46,9 +46,10 @@ taken-longest = refl
 
 -- every sign
 every-sign :
-    map {B = ℕ × ℕ} (λ t. (t .0, t .2)) (tokensBy 99 (bytes ";,=<><<=>>=+-()[]@#'1") 0)
+    map {B = ℕ × ℕ} (λ t. (t .0, t .2)) (tokensBy 99 (bytes ";,=<><<=>>=+-()[]@#*/'1") 0)
     ≡ (Kinds.semicolon, 0) ∷ (Kinds.comma, 1) ∷ (Kinds.equal, 2) ∷ (Kinds.notEqual, 3) ∷ (Kinds.less, 5) ∷ (Kinds.atMost, 6) ∷ (Kinds.greater, 8) ∷ (Kinds.atLeast, 9) ∷ (Kinds.plus, 11) ∷ (Kinds.minus, 12) ∷
-    (Kinds.leftParenthesis, 13) ∷ (Kinds.rightParenthesis, 14) ∷ (Kinds.leftBracket, 15) ∷ (Kinds.rightBracket, 16) ∷ (Kinds.at, 17) ∷ (Kinds.hash, 18) ∷ (Kinds.numeral, 19) ∷ []
+    (Kinds.leftParenthesis, 13) ∷ (Kinds.rightParenthesis, 14) ∷ (Kinds.leftBracket, 15) ∷ (Kinds.rightBracket, 16) ∷ (Kinds.at, 17) ∷ (Kinds.hash, 18) ∷
+    (Kinds.star, 19) ∷ (Kinds.slash, 20) ∷ (Kinds.numeral, 21) ∷ []
 unfolding tokensBy
 every-sign = refl
 
@@ -56,20 +57,20 @@ every-sign = refl
 every-keyword :
     map (λ t. t .0) (tokensBy 99 (bytes ".BEGIN .END .INTEGER .CONSTANT .COMPCONSTANT .ARRAY .NEXTSECTOR .PROCEDURE .ACCUMULATOR .IF .THEN .ELSE .WHEN .WHILE .DO .FOR"
     ++ (bytes " .ZERO .AND .NEV .ADDC .INC .NEG .SSP .SSM .CHS .CSA .NOT .ICLEFT .CLEFT .SWOP .ICRIGHT .CRIGHT .ABS"
-    ++ bytes " .LGR .ARS .ARR .LGL .ALS .ALR .NONZERO .PLUS .MINUS .ODD .EVEN .CSET .NOTC .SENSE1 .SENSE2 .SENSE3 .SENSE4 .ANYKEY .NOKEY")) 0)
-    ≡ from 22 52
+    ++ bytes " .LGR .ARS .ARR .LGL .ALS .ALR .NONZERO .PLUS .MINUS .ODD .EVEN .CSET .NOTC .SENSE1 .SENSE2 .SENSE3 .SENSE4 .ANYKEY .NOKEY .MOD")) 0)
+    ≡ from 22 53
 unfolding tokensBy
 every-keyword = refl
 
 -- every byte that is of the language, of all 256 (T2); a point alone is no token, though it begins some
 every-byte :
     knownOf (from 0 256)
-    ≡ 10 ∷ 32 ∷ 35 ∷ 39 ∷ 40 ∷ 41 ∷ 43 ∷ 44 ∷ 45 ∷ 48 ∷ 49 ∷ 50 ∷ 51 ∷ 52 ∷ 53 ∷ 54 ∷ 55 ∷ 56 ∷ 57 ∷ 59 ∷ 60 ∷ 61 ∷ 62 ∷ 64 ∷ from 65 26 ++ (91 ∷ 93 ∷ [])
+    ≡ 10 ∷ 32 ∷ 35 ∷ 39 ∷ 40 ∷ 41 ∷ 42 ∷ 43 ∷ 44 ∷ 45 ∷ 47 ∷ 48 ∷ 49 ∷ 50 ∷ 51 ∷ 52 ∷ 53 ∷ 54 ∷ 55 ∷ 56 ∷ 57 ∷ 59 ∷ 60 ∷ 61 ∷ 62 ∷ 64 ∷ from 65 26 ++ (91 ∷ 93 ∷ [])
 unfolding knownOf
 every-byte = refl
 
--- bytes that are none: lower case, tab, carriage return, `*`, `/`, 0 and 255; a blank is no token
-bad-bytes : map (λ t. t .0) (tokensBy 99 (bytes "a \t\r*/" ++ (0 ∷ 255 ∷ 32 ∷ 10 ∷ [])) 0) ≡ map (λ _. Kinds.unknown) (from 0 7)
+-- bytes that are none: lower case, tab, carriage return, `!`, `:`, 0 and 255; a blank is no token
+bad-bytes : map (λ t. t .0) (tokensBy 99 (bytes "a \t\r!:" ++ (0 ∷ 255 ∷ 32 ∷ 10 ∷ [])) 0) ≡ map (λ _. Kinds.unknown) (from 0 7)
 unfolding tokensBy
 bad-bytes = refl
 

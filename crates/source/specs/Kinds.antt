@@ -232,3 +232,14 @@ ANYKEY = 72
 
 abbrev pub NOKEY : ℕ
 NOKEY = 73
+
+-- one more operator
+abbrev pub MOD : ℕ
+MOD = 74
+
+-- the signs `*` and `/`; the numbers between are left to keywords, whose kinds follow one another
+abbrev pub star : ℕ
+star = 100
+
+abbrev pub slash : ℕ
+slash = 101

@@ -54,7 +54,7 @@ abbrev pub signs : List (List ℕ × ℕ)
 signs =
     (bytes "<>", Kinds.notEqual) ∷ (bytes "<=", Kinds.atMost) ∷ (bytes ">=", Kinds.atLeast) ∷
     (bytes "<", Kinds.less) ∷ (bytes ">", Kinds.greater) ∷ (bytes "=", Kinds.equal) ∷
-    (bytes ";", Kinds.semicolon) ∷ (bytes ",", Kinds.comma) ∷ (bytes "+", Kinds.plus) ∷
+    (bytes ";", Kinds.semicolon) ∷ (bytes ",", Kinds.comma) ∷ (bytes "+", Kinds.plus) ∷ (bytes "*", Kinds.star) ∷ (bytes "/", Kinds.slash) ∷
     (bytes "(", Kinds.leftParenthesis) ∷ (bytes ")", Kinds.rightParenthesis) ∷
     (bytes "[", Kinds.leftBracket) ∷ (bytes "]", Kinds.rightBracket) ∷ (bytes "@", Kinds.at) ∷ (bytes "#", Kinds.hash) ∷ []
 

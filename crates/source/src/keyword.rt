@@ -10,10 +10,10 @@ ghost use Rattle.source.specs.Bytes.{isDigit, span, sameBytes};
 ghost use Rattle.source.specs.Keywords.{keywordLength, keywordKind};
 ghost use Rattle.source.specs.Tokens.{keywordToken};
 
-const COUNT: usize = 52;
+const COUNT: usize = 53;
 
 // Where each keyword starts in the letters of all, and where the last ends.
-const STARTS: [usize; 53] = [
+const STARTS: [usize; 54] = [
     0,
     5,
     8,
@@ -67,6 +67,7 @@ const STARTS: [usize; 53] = [
     233,
     239,
     244,
+    247,
 ];
 
 fn same(a: &[u8], b: &[u8]) -> bool
@@ -100,7 +101,7 @@ fn keyword_kind(keyword: &[u8]) -> u16
     let letters =
         b"BEGINENDINTEGERCONSTANTCOMPCONSTANTARRAYNEXTSECTORPROCEDUREACCUMULATORIFTHENELSEWHENWHILEDOFOR\
           ZEROANDNEVADDCINCNEGSSPSSMCHSCSANOTICLEFTCLEFTSWOPICRIGHTCRIGHTABS\
-          LGRARSARRLGLALSALRNONZEROPLUSMINUSODDEVENCSETNOTCSENSE1SENSE2SENSE3SENSE4ANYKEYNOKEY";
+          LGRARSARRLGLALSALRNONZEROPLUSMINUSODDEVENCSETNOTCSENSE1SENSE2SENSE3SENSE4ANYKEYNOKEYMOD";
     let starts = STARTS;
     let mut k: usize = 0;
     while k < COUNT {

@@ -146,3 +146,9 @@ pub const SENSE4: u16 = 71;
 pub const ANYKEY: u16 = 72;
 
 pub const NOKEY: u16 = 73;
+
+pub const MOD: u16 = 74;
+
+pub const STAR: u16 = 100;
+
+pub const SLASH: u16 = 101;

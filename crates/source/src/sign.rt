@@ -52,6 +52,8 @@ fn sign_of(first: u8, second: u8) -> Token
         b';' => sign(kind::SEMICOLON, 1),
         b',' => sign(kind::COMMA, 1),
         b'+' => sign(kind::PLUS_SIGN, 1),
+        b'*' => sign(kind::STAR, 1),
+        b'/' => sign(kind::SLASH, 1),
         b'(' => sign(kind::LEFT_PARENTHESIS, 1),
         b')' => sign(kind::RIGHT_PARENTHESIS, 1),
         b'[' => sign(kind::LEFT_BRACKET, 1),

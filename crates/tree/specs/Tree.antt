@@ -67,7 +67,7 @@ pub data Unary : Type 0 where
 
 -- the operators that have a cell behind them (E7)
 pub data Operator : Type 0 where
-  add subtract and nev : Operator
+  add subtract and nev multiply divide modulo : Operator
 
 -- the shift words (E7)
 pub data Shift : Type 0 where

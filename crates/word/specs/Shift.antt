@@ -24,6 +24,13 @@ ALS = 0o415
 abbrev pub ALR : ℕ
 ALR = 0o416
 
+-- and the two that move A and B (I18)
+abbrev pub LRS : ℕ
+LRS = 0o401
+
+abbrev pub LLS : ℕ
+LLS = 0o411
+
 -- the bit of a word at a place, 0 the lowest. The last bit moved out is bit amount - 1 to the right, and bit 16 - amount to the left (I12)
 abbrev pub bitAt : ℕ → ℕ → Bool
 bitAt w place = eqb (w / 2 ^ place % 2) 1

@@ -23,7 +23,7 @@ pub fn bit(b: bool) -> u16
 }
 
 // The signed value plus 32768.
-fn bias(w: u16) -> u32
+pub fn bias(w: u16) -> u32
     ensures { λ r. ⌜ (r ≡ biased w) × (r < 65536) ⌝ }
 {
     (w as u32 + SIGN as u32) % 65536

@@ -18,6 +18,11 @@ pub const ALS: u16 = 0o415;
 
 pub const ALR: u16 = 0o416;
 
+// These two move A and B.
+pub const LRS: u16 = 0o401;
+
+pub const LLS: u16 = 0o411;
+
 fn shifted_right(w: u16, amount: u16) -> u32
     requires { ⌜ amount ≤ 16 ⌝ }
     ensures { λ r. ⌜ (r ≡ w / 2 ^ amount) × (r < 65536) ⌝ }

@@ -26,6 +26,12 @@ difference-requires c κs = search needs
 with-flagged-requires-2 : tie.Need-with-flagged-requires-2
 with-flagged-requires-2 c κs = search needs
 
+multiply-requires : tie.Need-multiply-requires
+multiply-requires c κs = search needs
+
+divide-requires : tie.Need-divide-requires
+divide-requires c κs = search needs
+
 returns : tie.Need-returns
 unfolding operateOf
 returns c = rw (c .before .match .keys1) (c .with-a .ensures)
@@ -48,7 +54,15 @@ returns-5 c = rw (c .before .before .match .keys5, c .with-flagged2 .ensures, c 
 
 returns-6 : tie.Need-returns-6
 unfolding operateOf
-returns-6 c = simp (ne-eqb _ _ (c .match .rest .0 .0 .0 .0 .1), ne-eqb _ _ (c .match .rest .0 .0 .0 .1), ne-eqb _ _ (c .match .rest .0 .0 .1), ne-eqb _ _ (c .match .rest .0 .1), ne-eqb _ _ (c .match .rest .1))
+returns-6 c = rw (c .before .match .keys6) (c .multiply .ensures)
+
+returns-7 : tie.Need-returns-7
+unfolding operateOf
+returns-7 c = rw (c .before .match .keys7) (c .divide .ensures)
+
+returns-8 : tie.Need-returns-8
+unfolding operateOf
+returns-8 c = simp (ne-eqb _ _ (c .match .rest .0 .0 .0 .0 .0 .0 .1), ne-eqb _ _ (c .match .rest .0 .0 .0 .0 .0 .1), ne-eqb _ _ (c .match .rest .0 .0 .0 .0 .1), ne-eqb _ _ (c .match .rest .0 .0 .0 .1), ne-eqb _ _ (c .match .rest .0 .0 .1), ne-eqb _ _ (c .match .rest .0 .1), ne-eqb _ _ (c .match .rest .1))
 
 pub operate-spec : {M : Type 1} → statement M
 operate-spec =
@@ -61,9 +75,13 @@ operate-spec =
     with-flagged-requires
     difference-requires
     with-flagged-requires-2
+    multiply-requires
+    divide-requires
     returns
     returns-2
     returns-3
     returns-4
     returns-5
-    returns-6)
+    returns-6
+    returns-7
+    returns-8)

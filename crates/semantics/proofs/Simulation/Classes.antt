@@ -1,4 +1,4 @@
--- Which instructions read, act on A and C, or skip: those that the forms become.
+-- Which instructions read, act on the registers, or skip: those that the forms become.
 use mathlib.Core.Path.{refl}
 use mathlib.Core.List.{List, [], _∷_}
 use mathlib.Core.Option.{Option, some, none}
@@ -8,20 +8,13 @@ use Rattle.instruction.specs.Opcode.{LDA}
 use Rattle.instruction.specs.Slot.{SKP, NOP, SPL, CRA, TCA}
 use Rattle.machine.specs.Step.{memoryDef, genericDef}
 use Rattle.tree.specs.Tree.{Unary, Operator, Test, Bare}
-use Rattle.layout.specs.Words.{Plain, unaryPlain, operatorOpcode, testSlot, bareSlot}
+use Rattle.layout.specs.Words.{Plain, unaryPlain, Operated, operatorForm, testSlot, bareSlot}
 use Rattle.semantics.specs.Acts.{generic}
 use Rattle.semantics.proofs.Simulation.Instructions.{Reads, ActsOn, Skips}
 
 pub load-reads : Reads LDA
 unfolding memoryDef
 load-reads e n image = refl
-
-pub operator-reads : (o : Operator) → Reads (operatorOpcode o)
-unfolding memoryDef operatorOpcode
-operator-reads Operator.add e n image = refl
-operator-reads Operator.subtract e n image = refl
-operator-reads Operator.and e n image = refl
-operator-reads Operator.nev e n image = refl
 
 pub clear-acts : ActsOn CRA
 unfolding genericDef skipsOf
@@ -40,6 +33,22 @@ abbrev pub Acts : List Plain → Type 0
 Acts [] = Unit {0}
 Acts (Plain.generic slot ∷ ps) = ActsOn slot × Acts ps
 Acts (Plain.shift kind n ∷ ps) = Acts ps
+
+-- the instructions of an operator
+pub record FormActs (form : Operated) : Type 0 where
+  pub before : Acts (form .before)
+  pub reads : Reads (form .opcode)
+  pub after : Acts (form .after)
+
+pub form-acts : (o : Operator) → FormActs (operatorForm o)
+unfolding operatorForm memoryDef genericDef skipsOf
+form-acts Operator.add = record { before = tt; reads = λ e n image. refl; after = tt }
+form-acts Operator.subtract = record { before = tt; reads = λ e n image. refl; after = tt }
+form-acts Operator.and = record { before = tt; reads = λ e n image. refl; after = tt }
+form-acts Operator.nev = record { before = tt; reads = λ e n image. refl; after = tt }
+form-acts Operator.multiply = record { before = tt; reads = λ e n image. refl; after = tt }
+form-acts Operator.divide = record { before = tt; reads = λ e n image. refl; after = tt }
+form-acts Operator.modulo = record { before = tt; reads = λ e n image. refl; after = (λ n. refl, tt) }
 
 abbrev pub UnaryActs : Option Plain → Type 0
 UnaryActs (some p) = Acts (p ∷ [])

@@ -85,7 +85,7 @@ abbrev pub Reads : ℕ → Type 0
 Reads code = (e : ℕ) (n : Machine) (image : List ℕ)
     → memoryDef code e n image ≡ machine.state (onward (machine.withRegisters n (operateOf code (getD image e 0) (n .registers))) 0) image
 
--- generic instructions that act on A and C, and those that skip or do not
+-- generic instructions that act on the registers, and those that skip or do not
 abbrev pub ActsOn : ℕ → Type 0
 ActsOn slot = (n : Machine) → genericDef slot n ≡ onward (machine.withRegisters n (unaryOf slot (n .registers))) 0
 

@@ -14,17 +14,17 @@ use Rattle.instruction.specs.Slot.{SPL}
 use Rattle.instruction.specs.declared.Instruction.the-variants.{Generic}
 use Rattle.instruction.proofs.Choice.{cond-when}
 use Rattle.machine.specs.State as machine
-use Rattle.tree.specs.Tree.{CellId, Array, Subscript, Cell, Unary, Operation, Relation, Target, isInside}
-use Rattle.layout.specs.Words.{Plain, controls, targetCell}
+use Rattle.tree.specs.Tree.{CellId, Array, Subscript, Cell, Unary, Operator, Operation, Relation, Target, isInside}
+use Rattle.layout.specs.Words.{Plain, operatorForm, controls, targetCell}
 use Rattle.layout.specs.Map.{Role}
 use Rattle.semantics.specs.Trace.{State, Trace, bind, next, ended}
 use Rattle.semantics.specs.Acts.{tick, xCell, Place, placeOf, valueOf, subscripted, element, entered, asPlace, reach, operate, storeA, setX, absolute, plainOn, test, jump, counted}
-use Rattle.semantics.specs.Meaning.{unaryOn, unariesOn, operationOn, operationsOn, chosen, orderOf, wordsAfter, ticks, related, assigned}
+use Rattle.semantics.specs.Meaning.{unaryOn, unariesOn, operatorOn, operationOn, operationsOn, chosen, orderOf, wordsAfter, ticks, related, assigned}
 use Rattle.memory_map.specs.Laid.{Map, Sound, Sits, Refers, ArrayWord, LaidSubscript, LaidCell, LaidOn, LaidJump, LaidPlain, LaidUnary, LaidUnaries, LaidOperations, LaidControls}
 use Rattle.semantics.proofs.Simulation.Relate.{Links, At, stands, Ok, ok-done, ok-broke, ok-observe, follow}
 use Rattle.semantics.proofs.Simulation.Instructions as instructions
 use Rattle.semantics.proofs.Simulation.Instructions.{Located, Reads, Skips, do-generic, do-shift, do-test, do-read, do-store, do-load-x, do-jump, do-compare, do-count, located-direct, located-element}
-use Rattle.semantics.proofs.Simulation.Classes.{operator-reads, complement-acts, sign-skips, Acts, UnaryActs, unary-acts}
+use Rattle.semantics.proofs.Simulation.Classes.{form-acts, complement-acts, sign-skips, Acts, UnaryActs, unary-acts}
 use Rattle.semantics.proofs.Simulation.Control.{fork, skipped, order-skips, table, jump-below, within, sim-controls}
 
 pub le₁ : (n : ℕ) → n ≤ suc n
@@ -117,11 +117,22 @@ module _ (M : Map) (sound : Sound M) (s₀ : machine.State) (N : ℕ) where
       let y = sim-unary u (x .0) in
       (y .0, le-trans (x .1) (y .1))
 
+  -- an operator's instruction with what stands before and after it, once its cell is reached; nothing before it changes the memory, so the operand stays where it is
+  sim-operator : {κ : Links} {a n b k : ℕ} {indirect : Bool} {l : Place} {σ : State} {m : List ℕ} (o : Operator) → LaidPlain M (operatorForm o .before) a n → Refers M n (operatorForm o .opcode) indirect k
+      → LaidPlain M (operatorForm o .after) (suc n) b → At M sound s₀ κ a σ m → Located M m indirect k l → Follows κ b (σ .steps) (operatorOn o l σ)
+  unfolding operatorOn
+  sim-operator o before r behind h q =
+      let acts = form-acts o in
+      let x = sim-plain before (acts .before) h in
+      let y = sim-plain behind (acts .after) (do-read M sound s₀ (x .0) (acts .reads) r q) in
+      moved (y .0) (le-trans (x .1) (le-trans (le₁ _) (y .1)))
+
   pub sim-operations : {κ : Links} {os : List Operation} {a b : ℕ} {σ : State} {m : List ℕ} → LaidOperations M os a b → At M sound s₀ κ a σ m
       → Follows κ b (σ .steps) (operationsOn os σ)
   unfolding operationsOn operationOn next
   sim-operations {m = m} LaidOperations.none h = ok-done m (le-refl _) h
-  sim-operations (LaidOperations.binary {o = o} c os) h = follow M sound s₀ (sim-read (operator-reads o) c h) (λ u σ₁ m₁ l h₁. sim-operations os h₁)
+  sim-operations (LaidOperations.binary {o = o} c before r behind os) h =
+      follow M sound s₀ (follow M sound s₀ (sim-cell c h) (λ l σ₁ m₁ le q. sim-operator o before r behind (q .0) (q .1))) (λ u σ₂ m₂ le h₂. sim-operations os h₂)
   sim-operations (LaidOperations.shift s os) h =
       let x = sim-plain s tt h in follow M sound s₀ (moved (x .0) (x .1)) (λ u σ₁ m₁ l h₁. sim-operations os h₁)
 

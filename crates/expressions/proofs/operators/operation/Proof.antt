@@ -13,17 +13,17 @@ operator-requires c κs = search needs
 cell-at-requires : tie.Need-cell-at-requires
 cell-at-requires c κs = search needs
 
-sub-emit-read : tie.Need-sub-emit-read
-sub-emit-read c = search needs
+sub-operated : tie.Need-sub-operated
+sub-operated c = search needs
 
-emit-read-requires : tie.Need-emit-read-requires
-emit-read-requires c κs = search needs
+operated-requires : tie.Need-operated-requires
+operated-requires c κs = search needs
 
 same-length : tie.Need-same-length
 same-length c = search needs
 
 returns : tie.Need-returns
-returns c = binary-turn _ _ _ _ (c .before .before .before .before .before .before .operator .ensures) (c .before .before .before .before .before .if1 .taken) (reads-on (sym (got-with _ (c .before .before .before .before .cell-at .ensures))) (c .before .before .emit-read .ensures))
+returns c = binary-turn _ _ _ _ (c .before .before .before .before .before .before .operator .ensures) (c .before .before .before .before .before .if1 .taken) (reads-on (sym (got-with _ (c .before .before .before .before .cell-at .ensures))) (c .before .before .operated .ensures))
 
 shift-word-requires : tie.Need-shift-word-requires
 shift-word-requires c κs = search needs
@@ -54,8 +54,8 @@ operation-spec =
     (tie.spec
     operator-requires
     cell-at-requires
-    sub-emit-read
-    emit-read-requires
+    sub-operated
+    operated-requires
     same-length
     returns
     shift-word-requires

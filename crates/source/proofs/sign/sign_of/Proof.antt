@@ -47,6 +47,12 @@ sign-requires-10 c κs = search needs
 sign-requires-11 : tie.Need-sign-requires-11
 sign-requires-11 c κs = search needs
 
+sign-requires-12 : tie.Need-sign-requires-12
+sign-requires-12 c κs = search needs
+
+sign-requires-13 : tie.Need-sign-requires-13
+sign-requires-13 c κs = search needs
+
 returns : tie.Need-returns
 returns c = rw (c .before .match .keys1) (c .less .ensures)
 
@@ -94,10 +100,18 @@ unfolding signToken find startsWith
 returns-12 c = rw (c .before .match .keys12) (c .sign10 .ensures)
 
 returns-13 : tie.Need-returns-13
-returns-13 c =
+unfolding signToken find startsWith
+returns-13 c = rw (c .before .match .keys13) (c .sign11 .ensures)
+
+returns-14 : tie.Need-returns-14
+unfolding signToken find startsWith
+returns-14 c = rw (c .before .match .keys14) (c .sign12 .ensures)
+
+returns-15 : tie.Need-returns-15
+returns-15 c =
     let n = c .before .match .rest in
-    c .sign11 .ensures
-    ∙ none _ _ (n .0 .0 .0 .0 .0 .0 .0 .0 .0 .0 .0 .1) (n .0 .0 .0 .0 .0 .0 .0 .0 .0 .0 .1) (n .0 .0 .0 .0 .0 .0 .0 .0 .0 .1) (n .0 .0 .0 .0 .0 .0 .0 .0 .1) (n .0 .0 .0 .0 .0 .0 .0 .1) (n .0 .0 .0 .0 .0 .0 .1) (n .0 .0 .0 .0 .0 .1) (n .0 .0 .0 .0 .1) (n .0 .0 .0 .1) (n .0 .0 .1) (n .0 .1) (n .1)
+    c .sign13 .ensures
+    ∙ none _ _ (n .0 .0 .0 .0 .0 .0 .0 .0 .0 .0 .0 .0 .0 .1) (n .0 .0 .0 .0 .0 .0 .0 .0 .0 .0 .0 .0 .1) (n .0 .0 .0 .0 .0 .0 .0 .0 .0 .0 .0 .1) (n .0 .0 .0 .0 .0 .0 .0 .0 .0 .0 .1) (n .0 .0 .0 .0 .0 .0 .0 .0 .0 .1) (n .0 .0 .0 .0 .0 .0 .0 .0 .1) (n .0 .0 .0 .0 .0 .0 .0 .1) (n .0 .0 .0 .0 .0 .0 .1) (n .0 .0 .0 .0 .0 .1) (n .0 .0 .0 .0 .1) (n .0 .0 .0 .1) (n .0 .0 .1) (n .0 .1) (n .1)
 
 pub sign-of-spec : {M : Type 1} → statement M
 sign-of-spec =
@@ -116,6 +130,8 @@ sign-of-spec =
     sign-requires-9
     sign-requires-10
     sign-requires-11
+    sign-requires-12
+    sign-requires-13
     returns
     returns-2
     returns-3
@@ -128,4 +144,6 @@ sign-of-spec =
     returns-10
     returns-11
     returns-12
-    returns-13)
+    returns-13
+    returns-14
+    returns-15)
