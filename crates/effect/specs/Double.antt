@@ -23,7 +23,7 @@ outside n = ltb n (ZERO - 32768) || leb (ZERO + 32768) n
 abbrev pub magnitude : ℕ → ℕ
 magnitude w = cond (negative w) (65536 - w) w
 
--- the double value: A's signed value times 32768, and B's low 15 bits (I15). A's, plus 32768, is its biased value
+-- the double value: A's signed value times 32768, and B's low 15 bits (I15). `biased` is A's signed value plus 32768; with 32768 more it is given plus 65536, and times 32768 plus 2^31
 abbrev pub doubleOf : Registers → ℕ
 doubleOf r = (biased (r .a) + 32768) * 32768 + r .b % 32768
 

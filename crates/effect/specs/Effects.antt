@@ -45,7 +45,7 @@ unaryOf slot r =
     (cond (eqb slot IAB) (swapped r)
     r))))))))))))))
 
--- a shift of A, with C (I11, I12), or of A and B, by 15 only (I18)
+-- a shift of A, with C (I11, I12), or of A and B, by 15 only (I18), of which LRS leaves C (I13)
 abbrev pub shiftedOf : ℕ → ℕ → Registers → Registers
 shiftedOf kind amount r =
     cond (eqb kind LLS && eqb amount 15) (longLeftOf r)

@@ -30,7 +30,7 @@ struct Turn {
     answer: OutputAnswer,
 }
 
-// Before a division A and B become A's value, by the kind of the operator's token (W18).
+// Before a division, that is for `/` and `.MOD`, LRS makes a double value of A; by the kind of the operator's token (W18).
 fn emit_before(image: &mut [u16], output: Output, kind: u16) -> Output
     ensures { λ r. ⌜ AlwaysEmits (plainWords (beforeBy kind)) output (now (image .entry)) r (now (image .exit)) ⌝ }
 {
@@ -40,7 +40,7 @@ fn emit_before(image: &mut [u16], output: Output, kind: u16) -> Output
     output
 }
 
-// After an operator's instruction A becomes the product, or the remainder (W18).
+// After a product LLS brings it into A, after a division IAB the remainder for `.MOD` (W18).
 fn emit_after(image: &mut [u16], output: Output, kind: u16) -> Output
     ensures { λ r. ⌜ AlwaysEmits (plainWords (afterBy kind)) output (now (image .entry)) r (now (image .exit)) ⌝ }
 {

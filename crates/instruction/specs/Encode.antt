@@ -14,7 +14,7 @@ unfoldable pub memoryWord : ℕ → Bool → Bool → Bool → ℕ → ℕ
 memoryWord opcode indirect tag sector address =
     bit indirect * INDIRECT + bit tag * TAG + opcode % 16 * OPCODE + bit sector * SECTOR + address % 512
 
--- a shift's base, and 64 less the amount (I11)
+-- a shift's base, and 64 less the amount (I11, I18)
 unfoldable pub shiftWord : ℕ → ℕ → ℕ
 shiftWord kind amount = (kind * 64 + 64 - amount % 64) % 65536
 

@@ -215,7 +215,7 @@ pub fn encode_memory(opcode: u16, indirect: bool, tag: bool, sector: bool, addre
         + address % 512
 }
 
-// The word of a shift (I11).
+// The word of a shift (I11, I18).
 pub fn encode_shift(kind: u16, amount: u16) -> u16
     ensures { λ r. ⌜ r ≡ shiftWord kind amount ⌝ }
 {

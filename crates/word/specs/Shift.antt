@@ -78,6 +78,6 @@ byKind kind amount w c =
     (cond (eqb kind ALR) (rotateLeft amount w)
     (flagged w c))))))
 
--- an amount or a kind that no instruction has leaves both
+-- an amount out of range, or a kind that is none of the six, leaves both
 unfoldable pub shiftOf : ℕ → ℕ → ℕ → Bool → Flagged
 shiftOf kind amount w c = cond (ltb amount 1 || ltb 15 amount) (flagged w c) (byKind kind amount w c)
