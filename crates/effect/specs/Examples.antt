@@ -39,7 +39,7 @@ unaries =
     (CSA, with 0 false ∷ with 1 false ∷ with 32767 false ∷ with 32767 false ∷ with 0 true ∷ with 32767 true ∷ with 4805 false ∷ with 9532 true ∷ []) ∷
     (CAR, with 0 false ∷ with 0 true ∷ with 32512 true ∷ with 32512 false ∷ with 32768 true ∷ with 65280 true ∷ with 4608 false ∷ with 42240 true ∷ []) ∷
     (CAL, with 0 false ∷ with 1 true ∷ with 255 true ∷ with 255 false ∷ with 0 true ∷ with 255 true ∷ with 197 false ∷ with 60 true ∷ []) ∷
-    (ICL, with 0 false ∷ with 1 true ∷ with 255 true ∷ with 255 false ∷ with 0 true ∷ with 255 true ∷ with 197 false ∷ with 60 true ∷ []) ∷
+    (ICL, with 0 false ∷ with 0 true ∷ with 127 true ∷ with 127 false ∷ with 128 true ∷ with 255 true ∷ with 18 false ∷ with 165 true ∷ []) ∷
     (AOA, with 1 false ∷ with 2 false ∷ with 32768 true ∷ with 32768 true ∷ with 32769 false ∷ with 0 false ∷ with 4806 false ∷ with 42301 false ∷ []) ∷
     (ACA, with 0 false ∷ with 2 false ∷ with 32768 true ∷ with 32767 false ∷ with 32769 false ∷ with 0 false ∷ with 4805 false ∷ with 42301 false ∷ []) ∷
     (ICR, with 0 false ∷ with 256 true ∷ with 65280 true ∷ with 65280 false ∷ with 0 true ∷ with 65280 true ∷ with 50432 false ∷ with 15360 true ∷ []) ∷

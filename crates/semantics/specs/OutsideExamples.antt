@@ -319,7 +319,7 @@ rows =
       carry = false;
       changed = (x, 65533) ∷ (global 0, 65533) ∷ [];
     } ∷
-    -- case 57: a quotient of a bracket in a conditional expression
+    -- case 57: a quotient of a bracket in a conditional expression; B is 0 since `.ICLEFT` gives the high byte of -7; with the low one it would be 6
     record {
       source = ".BEGIN.INTEGER\nWP24ZI,EG2K24IVI,GQF;EG2K24IVI=.IF\nWP24ZIT<>'10.THEN(.ICLEFT.SSM-7.NEV255)/WP24ZI7.ELSE.CRIGHT.CRIGHT  EG2K24IVI.MOD\nGQF.END";
       start = from 14887 63691 false (sense false false true false);
@@ -327,7 +327,7 @@ rows =
       fuel = 1;
       numbers = 0 ∷ 11 ∷ [];
       end = Ending.done 11 0 36058;
-      b = 6;
+      b = 0;
       carry = false;
       changed = (global 1, 0) ∷ [];
     } ∷
@@ -342,6 +342,18 @@ rows =
       b = 0;
       carry = true;
       changed = (x, 0) ∷ (global 0, 0) ∷ (global 2, 21869) ∷ [];
+    } ∷
+    -- case 84: both letters of a word, the first by `.ICLEFT` and the second by `.CLEFT`
+    record {
+      source = ".BEGIN .INTEGER W,A,B; W = '041502; A = .ICLEFT W; B = .CLEFT W .END";
+      start = from 65532 59542 false (sense true false true false);
+      words = (x, 65534) ∷ (global 0, 45395) ∷ (global 1, 65531) ∷ (global 2, 255) ∷ [];
+      fuel = 1;
+      numbers = 0 ∷ 2 ∷ 5 ∷ 8 ∷ [];
+      end = Ending.done 8 66 65534;
+      b = 59542;
+      carry = false;
+      changed = (global 0, 17218) ∷ (global 1, 67) ∷ (global 2, 66) ∷ [];
     } ∷ []
 
 abbrev tree : Row → Got Program

@@ -24,6 +24,6 @@ carOf w = pair (highByte w) 0
 abbrev pub icrOf : ℕ → ℕ
 icrOf w = pair (lowByte w) 0
 
--- the same as CAL
+-- (0,a): L2 of document 02 overrides document 01 here, which has (0,b)
 abbrev pub iclOf : ℕ → ℕ
-iclOf w = pair 0 (lowByte w)
+iclOf w = pair 0 (highByte w)

@@ -29,5 +29,5 @@ pub fn icr(w: u16) -> u16
 pub fn icl(w: u16) -> u16
     ensures { λ r. ⌜ r ≡ iclOf w ⌝ }
 {
-    w % 256
+    w / 256
 }
