@@ -19,7 +19,7 @@ A row of coverage is `| number | definitions | what would fail |`. Both lists ar
     proved `row`, ..                  rows of the table in proved_cases/specs/Table.antt
     stepped `row`, ..                 rows of the table in machine/specs/Examples.antt
     listings N, N to M, ..            outside listings, by number
-    machine_cases `case`, ..          cases of that program, and so for paper_cases
+    machine_cases `case`, ..          cases of that program, and so for paper_cases and page_cases
     the program NAME                  a program whose output is stored and compared
     page FILE.md `heading`            a heading of a page of docs/, up to a backquote in it
     nothing: why                      in the last column, where no check can see the rule broken
@@ -243,7 +243,7 @@ def page(rest):
 
 PLACES = {
     "edits": edits, "sources": failure_rows, "proved": proved, "stepped": stepped, "listings": listings, "the": program, "page": page,
-    "machine_cases": cases("machine_cases"), "paper_cases": cases("paper_cases"), "nothing:": lambda rest: [],
+    "machine_cases": cases("machine_cases"), "paper_cases": cases("paper_cases"), "page_cases": cases("page_cases"), "nothing:": lambda rest: [],
 }
 
 

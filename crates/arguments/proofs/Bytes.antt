@@ -12,7 +12,8 @@ use lib.ListN.{length, getD, drop, drop-of-length-le}
 use lib.Seq.{drop-cons}
 use Rattle.source.specs.Bytes.{isDigit}
 use Rattle.source.specs.Tokens.{number}
-use Rattle.arguments.specs.Arguments.{all, countOf}
+use Rattle.prelude.specs.Text.{all}
+use Rattle.arguments.specs.Arguments.{countOf}
 
 first : (s : List ℕ) (i : ℕ) → i < length s → drop i s ≡ getD s i 0 ∷ drop (i + 1) s
 first s i h = rw (add-one, drop-cons s i 0 h)

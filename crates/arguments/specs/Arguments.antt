@@ -1,11 +1,12 @@
 -- What is typed behind a program's name.
 use Prim.Native.Nat.{ℕ}
-use mathlib.Core.Bool.{Bool, true, _&&_}
-use mathlib.Core.List.{List, [], _∷_}
+use mathlib.Core.Bool.{Bool, _&&_}
+use mathlib.Core.List.{List}
 use mathlib.Core.Option.{Option, none, some}
 use lib.Dec.{eqb}
 use lib.ListN.{length, getD}
 use Rattle.prelude.specs.Choice.{whether, between}
+use Rattle.prelude.specs.Text.{all}
 use Rattle.effect.specs.declared.Switches.{Switches}
 use Rattle.source.specs.Bytes.{isDigit}
 use Rattle.source.specs.Tokens.{number}
@@ -13,11 +14,6 @@ use Rattle.arguments.specs.declared.TurnsArgument.{TurnsArgument}
 use Rattle.arguments.specs.declared.TurnsArgument.the-variants as TurnsArgument
 use Rattle.arguments.specs.declared.SwitchesArgument.{SwitchesArgument}
 use Rattle.arguments.specs.declared.SwitchesArgument.the-variants as SwitchesArgument
-
--- whether every byte passes a test
-unfoldable pub all : (ℕ → Bool) → List ℕ → Bool
-all p [] = true
-all p (b ∷ bs) = p b && all p bs
 
 -- a number that counts turns, if what it was read from was digits alone: from 1 to 1,000,000
 abbrev pub countOf : Bool → ℕ → Option ℕ

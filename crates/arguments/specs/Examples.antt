@@ -4,9 +4,9 @@ use mathlib.Core.Bool.{Bool, true, false}
 use mathlib.Core.List.{[], _∷_, map}
 use mathlib.Core.Option.{Option, none, some}
 use Rattle.effect.specs.declared.Switches.{Switches}
-use Rattle.source.specs.Bytes.{bytes}
+use Rattle.prelude.specs.Text.{bytes, all}
 use Rattle.source.specs.Tokens.{number}
-use Rattle.arguments.specs.Arguments.{all, turnsOf, switchesOf}
+use Rattle.arguments.specs.Arguments.{turnsOf, switchesOf}
 
 -- the ends of the range, and zeros in front
 counts :

@@ -1,6 +1,7 @@
 // What is typed behind a program's name: a count of turns, and the sense switches.
 ghost use mathlib.Core.Path.{_≡_};
-ghost use Rattle.arguments.specs.Arguments.{all, turnsOf, turnsIn, isSwitch, switchesOf, switchesIn};
+ghost use Rattle.prelude.specs.Text.{all};
+ghost use Rattle.arguments.specs.Arguments.{turnsOf, turnsIn, isSwitch, switchesOf, switchesIn};
 use effect::Switches;
 use source::byte::is_between;
 

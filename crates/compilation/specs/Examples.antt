@@ -5,7 +5,7 @@ use Prim.Native.String.{String}
 use mathlib.Core.Bool.{false}
 use mathlib.Core.List.{List, [], _∷_, _++_, map}
 use lib.ListN.{take, drop, replicate}
-use Rattle.source.specs.Bytes.{bytes}
+use Rattle.prelude.specs.Text.{bytes}
 use Rattle.tree.specs.Tree.{Item, Declaration}
 use Rattle.grammar.specs.Parse.{Got}
 use Rattle.grammar.specs.Declarations.{ItemKeyword, parseGlobal, parseArray, parseProcedure}

@@ -3,7 +3,7 @@ use Prim.Native.Nat.{ℕ, suc}
 use mathlib.Core.List.{List, [], _∷_, _++_}
 use lib.ListN.{take, drop}
 use Rattle.digits.specs.Digits.{octal, decimal, newline}
-use Rattle.source.specs.Bytes.{bytes}
+use Rattle.prelude.specs.Text.{bytes}
 use Rattle.compilation.specs.Compile.{Result}
 use Rattle.layout.specs.Addresses.{firstGlobal, firstCode}
 

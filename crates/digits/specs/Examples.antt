@@ -1,7 +1,9 @@
 -- Worked examples of numbers as text, decided by computation.
 use mathlib.Core.Path.{_≡_, refl}
-use Rattle.source.specs.Bytes.{bytes}
-use Rattle.digits.specs.Digits.{octalBy, octal, decimalBy, decimal, signed}
+use mathlib.Core.List.{[], _∷_, map}
+use mathlib.Core.Option.{none, some}
+use Rattle.prelude.specs.Text.{bytes}
+use Rattle.digits.specs.Digits.{octalBy, octal, decimalBy, decimal, signed, leftIn, rightIn, digitsFrom, shown}
 
 -- ---- Six octal digits (P3)
 
@@ -62,3 +64,23 @@ signed-lowest = refl
 signed-minus-one : signed 65535 ≡ bytes "-1"
 unfolding signed decimalBy
 signed-minus-one = refl
+
+-- ---- In columns (B2)
+
+-- as wide as the columns, narrower, and wider: nothing is cut
+left : map (leftIn 4) (bytes "Mill" ∷ bytes "Oak" ∷ bytes "" ∷ bytes "Acres" ∷ []) ≡ bytes "Mill" ∷ bytes "Oak " ∷ bytes "    " ∷ bytes "Acres" ∷ []
+unfolding leftIn
+left = refl
+
+right : map (rightIn 4) (0 ∷ 7 ∷ 960 ∷ 2140 ∷ 10000 ∷ []) ≡ bytes "   0" ∷ bytes "   7" ∷ bytes " 960" ∷ bytes "2140" ∷ bytes "10000" ∷ []
+unfolding rightIn decimalBy
+right = refl
+
+-- read back: a zero is no blank, and nothing but digits stands behind the spaces
+read-back : map shown (bytes "     0" ∷ bytes " 32767" ∷ bytes "  1020" ∷ bytes "007" ∷ []) ≡ some 0 ∷ some 32767 ∷ some 1020 ∷ some 7 ∷ []
+unfolding shown digitsFrom
+read-back = refl
+
+no-number : map shown (bytes "" ∷ bytes "      " ∷ bytes "  10 2" ∷ bytes "   7 " ∷ bytes "   /7" ∷ bytes "   7:" ∷ []) ≡ none ∷ none ∷ none ∷ none ∷ none ∷ none ∷ []
+unfolding shown digitsFrom
+no-number = refl

@@ -7,6 +7,12 @@ ghost use mathlib.Core.List.{[], _∷_};
 ghost use Rattle.digits.specs.Digits.{octal, decimalBy, decimal, signed};
 ghost use Rattle.digits.specs.Wrote.{largest, upOf, Wrote};
 
+mod columns;
+
+pub use columns::put_left;
+pub use columns::put_right;
+pub use columns::put_spaces;
+
 // No usize has more decimal digits.
 const MOST: usize = 20;
 
@@ -70,6 +76,13 @@ pub fn put_octal(out: &mut [u8], at: usize, n: usize) -> usize
     put_octal_digit(out, five, n)
 }
 
+// The lowest decimal digit.
+fn decimal_digit(n: usize) -> u8
+    ensures { λ r. ⌜ r ≡ 48 + n % 10 ⌝ }
+{
+    (48 + n % 10) as u8
+}
+
 // At most so many.
 fn decimal_digits(out: &mut [u8], at: usize, most: usize, n: usize) -> usize
     ensures { λ r. ⌜ Wrote (now (out .entry)) (now (out .exit)) at r (decimalBy most n) ⌝ }
@@ -78,10 +91,10 @@ fn decimal_digits(out: &mut [u8], at: usize, most: usize, n: usize) -> usize
         return at;
     }
     if n < 10 {
-        return put_byte(out, at, (48 + n % 10) as u8);
+        return put_byte(out, at, decimal_digit(n));
     }
     let next = decimal_digits(out, at, most - 1, n / 10);
-    put_byte(out, next, (48 + n % 10) as u8)
+    put_byte(out, next, decimal_digit(n))
 }
 
 // A number in decimal, without zeros in front (P3).

@@ -10,10 +10,11 @@ use native.Mathlib.Numerals.{add-one}
 use native.Mathlib.Omega.{arith}
 use borrow.Author.Tests.{eq-eqb, ne-eqb, leb-true, leb-false}
 use lib.Dec.{eqb, leb}
-use lib.ListN.{length, getD, take, drop, replicate, drop-of-length-le, List·getD-eq-default}
+use lib.ListN.{length, getD, take, drop, drop-of-length-le, List·getD-eq-default}
 use lib.Seq.{drop-cons}
 use Rattle.prelude.specs.Choice.{find}
-use Rattle.source.specs.Bytes.{bytes, span}
+use Rattle.prelude.specs.Text.{bytes}
+use Rattle.source.specs.Bytes.{span}
 use Rattle.digits.specs.Wrote.{Wrote}
 use Rattle.digits.proofs.Laws.{next-byte}
 use Rattle.failure_report.specs.Failure.{failures, wordsOf}
@@ -93,12 +94,6 @@ next-visible text i h e = ap (map visible) (next-byte text i h) ∙ ap (λ b. b 
 
 pub no-visible : (text : List ℕ) (i : ℕ) → length text ≤ i → map visible (drop i text) ≡ []
 no-visible text i h = rw (drop-of-length-le text h)
-
-pub next-space : (n : ℕ) → 0 < n → _≡_ {A = List ℕ} (replicate n 32) ((32 ∷ []) ++ replicate (n - 1) 32)
-next-space n h = let e : n ≡ suc (n - 1) = omega (arith, h) in ap (λ k. replicate {A = ℕ} k 32) e
-
-pub no-space : (n : ℕ) → n ≤ 0 → _≡_ {A = List ℕ} (replicate n 32) []
-no-space n h = let e : n ≡ 0 = omega (arith, h) in ap (λ k. replicate {A = ℕ} k 32) e
 
 -- the bytes from the line's start to its end
 pub line-bytes : (s : List ℕ) (from : ℕ) {end : ℕ} → end ≡ from + lineLength (drop from s) → take (end - from) (drop from s) ≡ lineFrom s from

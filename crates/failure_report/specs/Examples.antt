@@ -4,7 +4,8 @@ use mathlib.Core.Path.{_≡_, refl}
 use mathlib.Core.List.{List, [], _∷_, map}
 use Rattle.prelude.specs.Choice.{find}
 use Rattle.digits.specs.Digits.{decimalBy}
-use Rattle.source.specs.Bytes.{bytes, span}
+use Rattle.prelude.specs.Text.{bytes}
+use Rattle.source.specs.Bytes.{span}
 use Rattle.failure_report.specs.Place.{newlinesBefore, lineStart, lineOf, columnOf, lineFrom, visible}
 use Rattle.failure_report.specs.Failure.{wordsOf, placeText, failureText}
 
@@ -56,16 +57,16 @@ shapes = refl
 -- ---- The words (O3)
 
 words :
-    map wordsOf (1 ∷ 7 ∷ 14 ∷ 20 ∷ 23 ∷ [])
+    map wordsOf (1 ∷ 7 ∷ 14 ∷ 20 ∷ 23 ∷ 24 ∷ [])
     ≡ bytes "the image has not 16,384 words" ∷ bytes "name undeclared or of the wrong kind" ∷ bytes "more initial values than elements"
-    ∷ bytes "the word at P is no instruction; often a subscript left its array" ∷ bytes "P is outside the 16,384 words" ∷ []
+    ∷ bytes "the word at P is no instruction; often a subscript left its array" ∷ bytes "P is outside the 16,384 words" ∷ bytes "more than 32,767 litres" ∷ []
 unfolding wordsOf find
 words = refl
 
 abbrev noWords : List ℕ
 noWords = bytes "no failure has this number"
 
-no-words : map wordsOf (0 ∷ 15 ∷ 19 ∷ 24 ∷ []) ≡ noWords ∷ noWords ∷ noWords ∷ noWords ∷ []
+no-words : map wordsOf (0 ∷ 15 ∷ 19 ∷ 27 ∷ []) ≡ noWords ∷ noWords ∷ noWords ∷ noWords ∷ []
 unfolding wordsOf find
 no-words = refl
 

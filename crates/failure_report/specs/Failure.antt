@@ -6,7 +6,7 @@ use lib.Dec.{eqb}
 use lib.ListN.{replicate}
 use Rattle.prelude.specs.Choice.{find, given}
 use Rattle.digits.specs.Digits.{decimal, newline}
-use Rattle.source.specs.Bytes.{bytes}
+use Rattle.prelude.specs.Text.{bytes}
 use Rattle.failure_report.specs.Place.{lineOf, columnOf, lineStart, lineFrom, visible}
 
 -- the failures in words, by their numbers (O3)
@@ -30,6 +30,9 @@ failures =
     ∷ (21, "more than 16 indirect words in a row; often a subscript left its array")
     ∷ (22, "budget above 1,000,000 steps")
     ∷ (23, "P is outside the 16,384 words")
+    ∷ (24, "more than 32,767 litres")
+    ∷ (25, "a farm's name is empty, without a newline, over 14 bytes, or has bytes outside 32 to 126")
+    ∷ (26, "output too short, more than 1,000 farms, or not as many names as litres")
     ∷ []
 
 unfoldable pub wordsOf : ℕ → List ℕ

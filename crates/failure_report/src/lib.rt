@@ -8,10 +8,10 @@ ghost use Rattle.failure_report.specs.Place.{lineFrom, visible};
 ghost use Rattle.failure_report.specs.Failure.{placeText, failureText};
 use digits::put_byte;
 use digits::put_decimal;
+use digits::put_spaces;
 use digits::put_text;
 use place::line_end;
 use place::line_start;
-use visible::put_spaces;
 
 mod place;
 mod visible;

@@ -1,7 +1,6 @@
 // Bytes as they are shown.
 ghost use mathlib.Core.Path.{_≡_};
 ghost use mathlib.Core.List.{map};
-ghost use lib.ListN.{replicate};
 ghost use Rattle.digits.specs.Wrote.{Wrote};
 ghost use Rattle.failure_report.specs.Place as place;
 use digits::put_byte;
@@ -25,18 +24,6 @@ pub fn put_visible(out: &mut [u8], at: usize, text: &[u8]) -> usize
     while i < text.len() {
         next = put_byte(out, next, visible(text[i]));
         i += 1;
-    }
-    next
-}
-
-pub fn put_spaces(out: &mut [u8], at: usize, count: usize) -> usize
-    ensures { λ r. ⌜ Wrote (now (out .entry)) (now (out .exit)) at r (replicate count 32) ⌝ }
-{
-    let mut next = at;
-    let mut left = count;
-    while 0 < left {
-        next = put_byte(out, next, b' ');
-        left -= 1;
     }
     next
 }

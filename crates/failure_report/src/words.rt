@@ -57,6 +57,17 @@ pub fn put_words(out: &mut [u8], at: usize, number: u16) -> usize
         ),
         22 => put_text(out, at, b"budget above 1,000,000 steps"),
         23 => put_text(out, at, b"P is outside the 16,384 words"),
+        24 => put_text(out, at, b"more than 32,767 litres"),
+        25 => put_text(
+            out,
+            at,
+            b"a farm's name is empty, without a newline, over 14 bytes, or has bytes outside 32 to 126",
+        ),
+        26 => put_text(
+            out,
+            at,
+            b"output too short, more than 1,000 farms, or not as many names as litres",
+        ),
         _ => put_text(out, at, b"no failure has this number"),
     }
 }

@@ -1,8 +1,10 @@
-// The first page: a recipe (a source of the report writer's) sums an array of litres, and every number that is printed is taken from the machine's memory.
+// The first page and the collection page: a recipe (a source of the report writer's) sums an array of litres.
+// The litres, and the total of the first page, are taken from the machine's memory; the collection page adds up its own totals.
 use compiler::Answer;
 use digits::put_decimal;
 use digits::put_text;
 use effect::Switches;
+use failure_report::put_words;
 use machine::Outcome;
 use turns::run_turns;
 use turns::start;
@@ -51,7 +53,7 @@ fn put_field(out: &mut [u8], at: usize, text: &[u8], word: u16) -> usize {
     put_decimal(out, next, word as usize)
 }
 
-fn put_page(out: &mut [u8], image: &[u16; 16384]) -> usize {
+fn put_line(out: &mut [u8], image: &[u16; 16384]) -> usize {
     let one = put_field(out, 0, b"Farm, litres: Upper Field, ", image[LITRES]);
     let two = put_field(out, one, b"; Mill Lane, ", image[LITRES + 1]);
     let three = put_field(out, two, b"; Long Acre, ", image[LITRES + 2]);
@@ -59,17 +61,38 @@ fn put_page(out: &mut [u8], image: &[u16; 16384]) -> usize {
     put_text(out, four, b".\n")
 }
 
-// What is to be printed, and how many bytes it is.
-fn put_result(out: &mut [u8], image: &mut [u16; 16384]) -> usize {
-    if compile_and_run(&mut *image) {
-        return put_page(out, &*image);
+fn print_line(image: &[u16; 16384]) {
+    let mut out = [0u8; 256];
+    let size = put_line(&mut out, image);
+    output::print_start(&out, size);
+}
+
+fn print_failure(number: u16) {
+    let mut out = [0u8; 128];
+    let one = put_field(&mut out, 0, b"The page failed with ", number);
+    let two = put_text(&mut out, one, b": ");
+    let three = put_words(&mut out, two, number);
+    let size = put_text(&mut out, three, b"\n");
+    output::print_start(&out, size);
+}
+
+// The collection page of the same farms.
+fn print_page(image: &[u16; 16384]) {
+    let litres = [image[LITRES], image[LITRES + 1], image[LITRES + 2]];
+    let mut out = [0u8; 93];
+    let answer = page::page(b"Upper Field\nMill Lane\nLong Acre\n", &litres, &mut out);
+    match answer {
+        page::Answer::Made { length } => output::print_start(&out, length),
+        page::Answer::Failed { number } => print_failure(number),
     }
-    put_text(out, 0, b"The recipe did not come to its end.\n")
 }
 
 fn main() {
     let mut image = [0u16; 16384];
-    let mut out = [0u8; 256];
-    let size = put_result(&mut out, &mut image);
-    output::print_start(&out, size);
+    if compile_and_run(&mut image) {
+        print_line(&image);
+        print_page(&image);
+    } else {
+        output::print(b"The recipe did not come to its end.\n");
+    }
 }

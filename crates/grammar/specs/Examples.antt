@@ -3,7 +3,7 @@ use mathlib.Core.Path.{_≡_, refl}
 use Prim.Native.Nat.{ℕ}
 use mathlib.Core.Bool.{true}
 use mathlib.Core.List.{List, [], _∷_, map}
-use Rattle.source.specs.Bytes.{bytes}
+use Rattle.prelude.specs.Text.{bytes}
 use Rattle.tree.specs.Tree.{Id, Array, Operand, Subscript, Cell, Unary, Operator, Shift, Operation, Relation, Test, Bare, Expr, Term, Cond, Target, Stmt, Stmts, Item, Declaration}
 use Rattle.grammar.specs.Parse.{Got, andThen}
 use Rattle.grammar.specs.Parse.Got.{got}

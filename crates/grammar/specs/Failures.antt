@@ -4,7 +4,7 @@ use Prim.Native.Nat.{ℕ, zero, suc}
 use Prim.Native.String.{String}
 use mathlib.Core.List.{List, [], _∷_, _++_, map}
 use lib.ListN.{replicate}
-use Rattle.source.specs.Bytes.{bytes}
+use Rattle.prelude.specs.Text.{bytes}
 use Rattle.source.specs.Tokens.{tokenAt}
 use Rattle.tree.specs.Symbols.{Symbol, Level, Scope, localScope}
 use Rattle.grammar.specs.Parse.{Got}

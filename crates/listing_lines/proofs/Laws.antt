@@ -9,7 +9,7 @@ use lib.Seq.{sets, drop-cons, take-nil}
 use Rattle.digits.specs.Digits.{octalBy}
 use Rattle.digits.specs.Wrote.{largest, Wrote}
 use Rattle.digits.proofs.Laws.{decimal-length}
-use Rattle.source.specs.Bytes.{bytes}
+use Rattle.prelude.specs.Text.{bytes}
 use Rattle.compilation.specs.Compile.{Result}
 use Rattle.compilation.specs.Listing.{wordLines, listingDef}
 use Rattle.compiler.specs.Compile.{answerOf, imageAfter}

@@ -5,7 +5,7 @@ use mathlib.Core.List.{List, _++_}
 use lib.ListN.{length}
 use lib.Seq.{sets}
 use Rattle.digits.specs.Digits.{octal, decimal}
-use Rattle.source.specs.Bytes.{bytes}
+use Rattle.prelude.specs.Text.{bytes}
 use Rattle.tree.specs.Tree.{Program}
 use Rattle.compilation.specs.Compile.{Result}
 use Rattle.compilation.specs.Listing.{line, listingDef}

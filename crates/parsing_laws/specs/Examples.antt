@@ -1,6 +1,6 @@
 -- Worked examples, decided by computation: a source that ends too early, and one that fails at its last byte.
 use mathlib.Core.Path.{_≡_, refl}
-use Rattle.source.specs.Bytes.{bytes}
+use Rattle.prelude.specs.Text.{bytes}
 use Rattle.compilation.specs.Compile.{Result, compileDef}
 use Rattle.compilation.specs.Computed.{computed}
 

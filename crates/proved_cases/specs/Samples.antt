@@ -2,7 +2,7 @@
 use Prim.Native.Nat.{ℕ}
 use mathlib.Core.Bool.{Bool, false}
 use mathlib.Core.List.{List, []}
-use Rattle.source.specs.Bytes.{bytes}
+use Rattle.prelude.specs.Text.{bytes}
 use Rattle.machine.specs.declared.Machine.{Machine}
 use Rattle.machine.specs.State.{state}
 use Rattle.machine.specs.Run.{Ran, runDef}

@@ -5,7 +5,7 @@ use mathlib.Core.Path.{_≡_}
 use mathlib.Core.Bool.{true, false}
 use mathlib.Core.List.{List, [], _∷_}
 use lib.ListN.{length, set}
-use Rattle.source.specs.Bytes.{bytes}
+use Rattle.prelude.specs.Text.{bytes}
 use Rattle.word.specs.Arithmetic.{compareOf}
 use Rattle.word.specs.Shift.{LGL}
 use Rattle.instruction.specs.declared.Instruction.the-variants.{Shift}

@@ -14,7 +14,7 @@ use lib.Seq.{take-suc}
 use types.Run.{OneOf, miss}
 use denote.Enum.Declared.{tagOf}
 use Rattle.prelude.specs.Choice.{whether}
-use Rattle.source.specs.Bytes.{bytes}
+use Rattle.prelude.specs.Text.{bytes}
 use Rattle.digits.specs.Digits.{decimal, newline}
 use Rattle.symbols.specs.Packing.{beforeTrimmed, trimmed}
 use Rattle.tree.specs.Tree.{Item, Declaration, Program}

@@ -18,7 +18,7 @@ use Rattle.machine.specs.Run.{runFrom, runDef}
 use Rattle.turns.specs.Turns.{turnsDef}
 use Rattle.prelude.specs.Choice.{find}
 use Rattle.digits.specs.Digits.{decimalBy, signed}
-use Rattle.source.specs.Bytes.{bytes}
+use Rattle.prelude.specs.Text.{bytes}
 use Rattle.tree.specs.Tree.{Id, Item, Stmt, Stmts, Declaration}
 use Rattle.tree.specs.Symbols.{Symbol}
 use Rattle.layout.specs.Allocation.{start, allocated}

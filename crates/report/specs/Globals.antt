@@ -6,7 +6,7 @@ use lib.Dec.{eqb}
 use lib.ListN.{getD}
 use Rattle.prelude.specs.Choice.{whether}
 use Rattle.digits.specs.Digits.{decimal, signed, newline}
-use Rattle.source.specs.Bytes.{bytes}
+use Rattle.prelude.specs.Text.{bytes}
 use Rattle.tree.specs.Tree.{Id, Name, Item, Declaration}
 use Rattle.tree.specs.Symbols.{Symbol, Names}
 use Rattle.layout.specs.Addresses.{firstGlobal, firstArray}

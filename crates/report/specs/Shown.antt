@@ -8,7 +8,7 @@ use lib.ListN.{length, getD, replicate}
 use Rattle.prelude.specs.Choice.{whether}
 use Rattle.digits.specs.Digits.{decimal, signed, newline}
 use Rattle.digits.specs.Wrote.{Wrote}
-use Rattle.source.specs.Bytes.{bytes}
+use Rattle.prelude.specs.Text.{bytes}
 use Rattle.effect.specs.declared.Registers.{Registers}
 use Rattle.effect.specs.declared.Switches.{Switches}
 use Rattle.machine.specs.declared.Outcome.{Outcome}

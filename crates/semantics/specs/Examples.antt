@@ -9,7 +9,7 @@ use Rattle.word.specs.Shift.{shiftOf, signChanges}
 use Rattle.effect.specs.Double.{multiplyOf, divideOf, longLeftOf, longRightOf}
 use Rattle.effect.specs.Effects.{operateOf, unaryOf}
 use Rattle.effect.specs.Skips.{skipsOf}
-use Rattle.source.specs.Bytes.{bytes}
+use Rattle.prelude.specs.Text.{bytes}
 use Rattle.tree.specs.Tree.{Id, CellId, Program, sameId, sameCell, isInside}
 use Rattle.grammar.specs.Parse.{Got}
 use Rattle.grammar.specs.Program.{parseProgram}

@@ -7,7 +7,7 @@ use mathlib.Core.Path.{_≡_, refl}
 use mathlib.Core.Bool.{Bool, true, false}
 use mathlib.Core.List.{List, [], _∷_, map}
 use Rattle.effect.specs.declared.Switches.{Switches}
-use Rattle.source.specs.Bytes.{bytes}
+use Rattle.prelude.specs.Text.{bytes}
 use Rattle.tree.specs.Tree.{Id, CellId, Program}
 use Rattle.grammar.specs.Parse.{Got}
 use Rattle.grammar.specs.Program.{parseProgram}

@@ -7,7 +7,8 @@ use native.Mathlib.Omega.{arith}
 use lib.Dec.{leb, eqb}
 use lib.ListN.{length, take, drop, length-drop}
 use Rattle.prelude.specs.Choice.{whether}
-use Rattle.source.specs.Bytes.{bytes, isLetter, isDigit, isOctalDigit, isLetterOrDigit, isBlank, span, sameBytes}
+use Rattle.prelude.specs.Text.{bytes}
+use Rattle.source.specs.Bytes.{isLetter, isDigit, isOctalDigit, isLetterOrDigit, isBlank, span, sameBytes}
 use Rattle.source.specs.Kinds
 use Rattle.source.specs.Keywords.{keywordLength}
 use Rattle.source.specs.declared.Token.{Token}

@@ -9,7 +9,8 @@ use lib.Dec.{leb, eqb, leb→le, eqb→eq}
 use lib.ListN.{length, getD, take, drop, drop-of-length-le}
 use lib.Seq.{drop-cons, drop-drop}
 use Rattle.prelude.specs.Choice.{given, find}
-use Rattle.source.specs.Bytes.{bytes, isLetter, isDigit, span, sameBytes}
+use Rattle.prelude.specs.Text.{bytes}
+use Rattle.source.specs.Bytes.{isLetter, isDigit, span, sameBytes}
 use Rattle.source.specs.Kinds
 use Rattle.source.specs.Keywords.{keywords, keywordLength, keywordKind}
 use Rattle.source.specs.Tokens.{keywordToken}

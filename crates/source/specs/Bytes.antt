@@ -1,16 +1,9 @@
 -- Bytes of the source, and what is asked of lists of them.
 use Prim.Native.Nat.{ℕ, suc}
-use Prim.Native.Char.{code}
-use Prim.Native.String.{String, [] as []ˢ, _∷_ as _∷ˢ_}
 use mathlib.Core.Bool.{Bool, true, false, _||_}
 use mathlib.Core.List.{List, [], _∷_}
 use lib.Dec.{eqb}
 use Rattle.prelude.specs.Choice.{whether, between}
-
--- a string's bytes: keywords and examples are written as strings
-abbrev pub bytes : String → List ℕ
-bytes []ˢ = []
-bytes (c ∷ˢ cs) = code c ∷ bytes cs
 
 -- the letters, capitals alone (T2); the signs are a table in Tokens
 abbrev pub isLetter : ℕ → Bool

@@ -4,7 +4,8 @@ use Prim.Native.Nat.{ℕ, zero, suc}
 use mathlib.Core.List.{List, [], _∷_, _++_, map}
 use lib.Dec.{eqb}
 use Rattle.prelude.specs.Choice.{whether, find}
-use Rattle.source.specs.Bytes.{bytes, span, sameBytes, startsWith}
+use Rattle.prelude.specs.Text.{bytes}
+use Rattle.source.specs.Bytes.{span, sameBytes, startsWith}
 use Rattle.source.specs.Kinds
 use Rattle.source.specs.Keywords.{keywords, keywordLength, keywordKind}
 use Rattle.source.specs.Tokens.{number, constantToken, decimalToken, negativeToken, octalToken, keywordToken, signToken, tokenOf, afterBlanks, tokenAt, nameOf}

@@ -3,7 +3,8 @@ use Prim.Native.Nat.{ℕ, _+_}
 use mathlib.Core.List.{List, [], _∷_}
 use lib.ListN.{take, drop}
 use Rattle.prelude.specs.Choice.{whether, given, find}
-use Rattle.source.specs.Bytes.{bytes, isLetter, isDigit, span, sameBytes}
+use Rattle.prelude.specs.Text.{bytes}
+use Rattle.source.specs.Bytes.{isLetter, isDigit, span, sameBytes}
 use Rattle.source.specs.Kinds
 
 -- the keywords: what follows the point, with its kind (T6)

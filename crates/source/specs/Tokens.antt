@@ -4,7 +4,8 @@ use mathlib.Core.List.{List, [], _∷_}
 use lib.ListN.{length, take, drop}
 use lib.Dec.{leb, eqb}
 use Rattle.prelude.specs.Choice.{whether, find, given}
-use Rattle.source.specs.Bytes.{bytes, isLetter, isDigit, isOctalDigit, isLetterOrDigit, isBlank, span, startsWith}
+use Rattle.prelude.specs.Text.{bytes}
+use Rattle.source.specs.Bytes.{isLetter, isDigit, isOctalDigit, isLetterOrDigit, isBlank, span, startsWith}
 use Rattle.source.specs.Kinds
 use Rattle.source.specs.Keywords.{keywordLength, keywordKind}
 -- the code's struct: its kind; the 16 bits of a constant in figures; the offsets of its first byte and after its last

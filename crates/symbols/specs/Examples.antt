@@ -3,7 +3,8 @@ use mathlib.Core.Path.{_≡_, refl}
 use mathlib.Core.List.{List, [], _∷_}
 use mathlib.Core.Option.{none, some}
 use Prim.Native.Nat.{ℕ}
-use Rattle.source.specs.Bytes.{bytes, sameBytes}
+use Rattle.prelude.specs.Text.{bytes}
+use Rattle.source.specs.Bytes.{sameBytes}
 use Rattle.prelude.specs.Choice.{find}
 use Rattle.source.specs.Kinds
 use Rattle.source.specs.Tokens.{token, nameOf}

@@ -4,7 +4,8 @@ use mathlib.Core.Bool.{Bool, true, false}
 use mathlib.Core.List.{List, _∷_}
 use mathlib.Core.Option.{Option, none, some}
 use Rattle.prelude.specs.Choice.{whether, find, given}
-use Rattle.source.specs.Bytes.{bytes, sameBytes}
+use Rattle.prelude.specs.Text.{bytes}
+use Rattle.source.specs.Bytes.{sameBytes}
 use Rattle.tree.specs.Tree.{Id, Array, Operand, Name, Item, Declaration}
 
 -- what a name stands for: an integer; a constant, with its value; a compconstant; an array; a procedure, by its number, which counts

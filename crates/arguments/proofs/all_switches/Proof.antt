@@ -4,7 +4,8 @@ use mathlib.Core.Path.{_≡_, refl, sym, _∙_}
 use borrow.Author.Needs.{needs}
 use borrow.Author.Tests.{not-true, not-false}
 use lib.ListN.{drop}
-use Rattle.arguments.specs.Arguments.{all, isSwitch}
+use Rattle.prelude.specs.Text.{all}
+use Rattle.arguments.specs.Arguments.{isSwitch}
 use Rattle.arguments.proofs.Bytes.{all-next, all-not, all-done}
 use Rattle.arguments.proofs.all_switches.Statement.{statement}
 use Rattle.arguments.proofs.all_switches.Tie as tie

@@ -6,7 +6,7 @@ use mathlib.Core.List.{List, [], _∷_}
 use native.Mathlib.Omega.{arith}
 use Rattle.machine.specs.State as machine
 use Rattle.runs.specs.Runs.{Total, Comes}
-use Rattle.source.specs.Bytes.{bytes}
+use Rattle.prelude.specs.Text.{bytes}
 use Rattle.tree.specs.Tree.{Id, CellId, Operand, Subscript, Cell, Operator, Operation, Bare, Expr, Term, Cond, Target, Stmt, Stmts, Item, Declaration, Program}
 use Rattle.grammar.specs.Computed as grammar
 use Rattle.compilation.specs.Compile.{Result, compiled, resultOf, compileDef}

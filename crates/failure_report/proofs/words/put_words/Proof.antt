@@ -119,6 +119,24 @@ slice-aggregate-put-text-19 c = search needs
 put-text-requires-19 : tie.Need-put-text-requires-19
 put-text-requires-19 c κs = search needs
 
+slice-aggregate-put-text-20 : tie.Need-slice-aggregate-put-text-20
+slice-aggregate-put-text-20 c = search needs
+
+put-text-requires-20 : tie.Need-put-text-requires-20
+put-text-requires-20 c κs = search needs
+
+slice-aggregate-put-text-21 : tie.Need-slice-aggregate-put-text-21
+slice-aggregate-put-text-21 c = search needs
+
+put-text-requires-21 : tie.Need-put-text-requires-21
+put-text-requires-21 c κs = search needs
+
+slice-aggregate-put-text-22 : tie.Need-slice-aggregate-put-text-22
+slice-aggregate-put-text-22 c = search needs
+
+put-text-requires-22 : tie.Need-put-text-requires-22
+put-text-requires-22 c κs = search needs
+
 same-length : tie.Need-same-length
 same-length c = search needs
 
@@ -249,10 +267,31 @@ same-length-19 : tie.Need-same-length-19
 same-length-19 c = search needs
 
 returns-19 : tie.Need-returns-19
-returns-19 c =
+unfolding wordsOf find
+returns-19 c = let put = c .before .before in rw (put .before .before .before .match .keys19) (put .put-text19 .ensures)
+
+same-length-20 : tie.Need-same-length-20
+same-length-20 c = search needs
+
+returns-20 : tie.Need-returns-20
+unfolding wordsOf find
+returns-20 c = let put = c .before .before in rw (put .before .before .before .match .keys20) (put .put-text20 .ensures)
+
+same-length-21 : tie.Need-same-length-21
+same-length-21 c = search needs
+
+returns-21 : tie.Need-returns-21
+unfolding wordsOf find
+returns-21 c = let put = c .before .before in rw (put .before .before .before .match .keys21) (put .put-text21 .ensures)
+
+same-length-22 : tie.Need-same-length-22
+same-length-22 c = search needs
+
+returns-22 : tie.Need-returns-22
+returns-22 c =
     let put = c .before .before in
     let n = put .before .before .before .match .rest in
-    no-words _ (n .0 .0 .0 .0 .0 .0 .0 .0 .0 .0 .0 .0 .0 .0 .0 .0 .0 .1, (n .0 .0 .0 .0 .0 .0 .0 .0 .0 .0 .0 .0 .0 .0 .0 .0 .1, (n .0 .0 .0 .0 .0 .0 .0 .0 .0 .0 .0 .0 .0 .0 .0 .1, (n .0 .0 .0 .0 .0 .0 .0 .0 .0 .0 .0 .0 .0 .0 .1, (n .0 .0 .0 .0 .0 .0 .0 .0 .0 .0 .0 .0 .0 .1, (n .0 .0 .0 .0 .0 .0 .0 .0 .0 .0 .0 .0 .1, (n .0 .0 .0 .0 .0 .0 .0 .0 .0 .0 .0 .1, (n .0 .0 .0 .0 .0 .0 .0 .0 .0 .0 .1, (n .0 .0 .0 .0 .0 .0 .0 .0 .0 .1, (n .0 .0 .0 .0 .0 .0 .0 .0 .1, (n .0 .0 .0 .0 .0 .0 .0 .1, (n .0 .0 .0 .0 .0 .0 .1, (n .0 .0 .0 .0 .0 .1, (n .0 .0 .0 .0 .1, (n .0 .0 .0 .1, (n .0 .0 .1, (n .0 .1, (n .1, tt)))))))))))))))))) (put .put-text19 .ensures)
+    no-words _ (n .0 .0 .0 .0 .0 .0 .0 .0 .0 .0 .0 .0 .0 .0 .0 .0 .0 .0 .0 .0 .1, (n .0 .0 .0 .0 .0 .0 .0 .0 .0 .0 .0 .0 .0 .0 .0 .0 .0 .0 .0 .1, (n .0 .0 .0 .0 .0 .0 .0 .0 .0 .0 .0 .0 .0 .0 .0 .0 .0 .0 .1, (n .0 .0 .0 .0 .0 .0 .0 .0 .0 .0 .0 .0 .0 .0 .0 .0 .0 .1, (n .0 .0 .0 .0 .0 .0 .0 .0 .0 .0 .0 .0 .0 .0 .0 .0 .1, (n .0 .0 .0 .0 .0 .0 .0 .0 .0 .0 .0 .0 .0 .0 .0 .1, (n .0 .0 .0 .0 .0 .0 .0 .0 .0 .0 .0 .0 .0 .0 .1, (n .0 .0 .0 .0 .0 .0 .0 .0 .0 .0 .0 .0 .0 .1, (n .0 .0 .0 .0 .0 .0 .0 .0 .0 .0 .0 .0 .1, (n .0 .0 .0 .0 .0 .0 .0 .0 .0 .0 .0 .1, (n .0 .0 .0 .0 .0 .0 .0 .0 .0 .0 .1, (n .0 .0 .0 .0 .0 .0 .0 .0 .0 .1, (n .0 .0 .0 .0 .0 .0 .0 .0 .1, (n .0 .0 .0 .0 .0 .0 .0 .1, (n .0 .0 .0 .0 .0 .0 .1, (n .0 .0 .0 .0 .0 .1, (n .0 .0 .0 .0 .1, (n .0 .0 .0 .1, (n .0 .0 .1, (n .0 .1, (n .1, tt))))))))))))))))))))) (put .put-text22 .ensures)
 
 pub put-words-spec : {M : Type 1} → statement M
 put-words-spec =
@@ -296,6 +335,12 @@ put-words-spec =
     put-text-requires-18
     slice-aggregate-put-text-19
     put-text-requires-19
+    slice-aggregate-put-text-20
+    put-text-requires-20
+    slice-aggregate-put-text-21
+    put-text-requires-21
+    slice-aggregate-put-text-22
+    put-text-requires-22
     same-length
     returns
     same-length-2
@@ -333,4 +378,10 @@ put-words-spec =
     same-length-18
     returns-18
     same-length-19
-    returns-19)
+    returns-19
+    same-length-20
+    returns-20
+    same-length-21
+    returns-21
+    same-length-22
+    returns-22)

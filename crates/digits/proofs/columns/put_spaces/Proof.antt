@@ -2,10 +2,10 @@
 use native.Mathlib.Omega.{arith}
 use lib.ListN.{replicate}
 use borrow.Author.Needs.{needs}
 use Rattle.digits.proofs.Laws.{Left, begins, goes-on, is-whole}
-use Rattle.failure_report.proofs.Laws.{next-space, no-space}
-use Rattle.failure_report.proofs.visible.put_spaces.Statement.{statement}
-use Rattle.failure_report.proofs.visible.put_spaces.Tie as tie
+use Rattle.digits.proofs.Widths.{next-space, no-space}
+use Rattle.digits.proofs.columns.put_spaces.Statement.{statement}
+use Rattle.digits.proofs.columns.put_spaces.Tie as tie
 
 abbrev Inv-loop : tie.InvT-loop
 Inv-loop out₀ at count next₀ left₀ out next left = Left out₀ out at next (replicate left 32) (replicate count 32)

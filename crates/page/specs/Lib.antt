@@ -1,0 +1,6 @@
+-- The collection page.
+pub mod Names
+pub mod Page
+pub mod PageLaws
+pub mod Readings
+pub mod Examples
