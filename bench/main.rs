@@ -6,61 +6,105 @@ mod processor;
 mod programs;
 mod random;
 
-use plain::{Machine, Outcome, Report};
+use plain::{Clock, Machine, Outcome, Report, Request};
 use programs::Program;
 use std::time::Duration;
 
 const RUNS: u32 = 200;
-const BUDGET: u32 = 1_000_000;
+const ASKED: Request = Request { budget: 1_000_000, cooperative: 15 };
 const ROUNDS: usize = 5;
 
+/// How many numbers each slice has.
+const MACHINE: usize = 9;
+const CLOCK: usize = 17;
+const REQUEST: usize = 2;
+const REPORT: usize = 3;
+
 extern "C" {
-    fn machine_run(image: *mut u16, image_length: usize, words: *mut u32, words_length: usize) -> bool;
+    fn machine_run(
+        image: *mut u16,
+        image_length: usize,
+        machine: *mut u32,
+        machine_length: usize,
+        clock: *mut u32,
+        clock_length: usize,
+        request: *const u32,
+        request_length: usize,
+        report: *mut u32,
+        report_length: usize,
+    ) -> bool;
     fn machine_due(clock: u32, deadline: u32) -> bool;
 }
 
-/// The proved run, in the plain one's types.
-fn proved(image: &mut [u16], m: &mut Machine, clock: &mut u32, budget: u32) -> Report {
-    let flags = m.switches.map(u32::from);
-    let mut words = [0; 14];
-    words[..4].copy_from_slice(&[m.a.into(), m.b.into(), m.c.into(), m.p.into()]);
-    words[4..8].copy_from_slice(&flags);
-    words[8..11].copy_from_slice(&[m.halted.into(), *clock, budget]);
-    let taken = unsafe { machine_run(image.as_mut_ptr(), image.len(), words.as_mut_ptr(), words.len()) };
-    assert!(taken);
-    *m = Machine {
-        a: words[0] as u16,
-        b: words[1] as u16,
-        c: words[2] != 0,
-        p: words[3] as u16,
-        switches: [words[4] != 0, words[5] != 0, words[6] != 0, words[7] != 0],
-        halted: words[8] != 0,
-    };
-    *clock = words[9];
-    let outcome = match words[11] {
-        0 => Outcome::Halted,
-        1 => Outcome::Spent,
-        _ => Outcome::Failed(words[12]),
-    };
-    Report { outcome, steps: words[13] }
+fn call(image: &mut [u16], machine: &mut [u32], clock: &mut [u32], request: &[u32], report: &mut [u32]) -> bool {
+    unsafe {
+        machine_run(
+            image.as_mut_ptr(),
+            image.len(),
+            machine.as_mut_ptr(),
+            machine.len(),
+            clock.as_mut_ptr(),
+            clock.len(),
+            request.as_ptr(),
+            request.len(),
+            report.as_mut_ptr(),
+            report.len(),
+        )
+    }
 }
 
-/// Numbers that are no machine's are refused, and nothing changes.
-fn refusals() {
-    let refused = |words: &[u32]| {
-        let (mut image, mut after) = (vec![0o3000; plain::WORDS], words.to_vec());
-        let taken = unsafe { machine_run(image.as_mut_ptr(), image.len(), after.as_mut_ptr(), after.len()) };
-        assert!(!taken && after == words && image.iter().all(|&w| w == 0o3000));
+/// The proved run, in the plain one's types.
+fn proved(image: &mut [u16], m: &mut Machine, clock: &mut Clock, request: Request) -> Report {
+    let mut machine = [0; MACHINE];
+    machine[..4].copy_from_slice(&[m.a.into(), m.b.into(), m.c.into(), m.p.into()]);
+    machine[4..8].copy_from_slice(&m.switches.map(u32::from));
+    machine[8] = m.halted.into();
+    let mut record = [0; CLOCK];
+    record[0] = clock.common;
+    record[1..].copy_from_slice(&clock.counts);
+    let mut report = [0; REPORT];
+    let numbers: [u32; REQUEST] = [request.budget, request.cooperative];
+    assert!(call(image, &mut machine, &mut record, &numbers, &mut report));
+    *m = Machine {
+        a: machine[0] as u16,
+        b: machine[1] as u16,
+        c: machine[2] != 0,
+        p: machine[3] as u16,
+        switches: std::array::from_fn(|i| machine[4 + i] != 0),
+        halted: machine[8] != 0,
     };
-    for length in [0, 13, 15] {
-        refused(&vec![0; length]);
+    *clock = Clock { common: record[0], counts: std::array::from_fn(|i| record[1 + i]) };
+    let outcome = match report[0] {
+        0 => Outcome::Halted,
+        1 => Outcome::Spent,
+        _ => Outcome::Failed(report[1]),
+    };
+    Report { outcome, steps: report[2] }
+}
+
+/// Numbers that are no call's are refused, and nothing changes.
+fn refusals() {
+    let refused = |machine: &[u32], clock: usize, request: usize, report: usize| {
+        let (mut image, mut after) = (vec![0o3000; plain::WORDS], machine.to_vec());
+        let (mut record, mut answer) = (vec![7; clock], vec![8; report]);
+        assert!(!call(&mut image, &mut after, &mut record, &vec![9; request], &mut answer));
+        assert!(after == machine && image.iter().all(|&w| w == 0o3000));
+        assert!(record.iter().all(|&n| n == 7) && answer.iter().all(|&n| n == 8));
+    };
+    for slice in 0..4 {
+        let right = [MACHINE, CLOCK, REQUEST, REPORT];
+        for length in [0, right[slice] - 1, right[slice] + 1] {
+            let mut lengths = right;
+            lengths[slice] = length;
+            refused(&vec![0; lengths[0]], lengths[1], lengths[2], lengths[3]);
+        }
     }
     let words = [0, 1, 3].map(|place| (place, 65_536));
     let flags = [2, 4, 5, 6, 7, 8].map(|place| (place, 2));
     for (place, number) in words.into_iter().chain(flags) {
-        let mut words = [0; 14];
-        words[place] = number;
-        refused(&words);
+        let mut machine = [0; MACHINE];
+        machine[place] = number;
+        refused(&machine, CLOCK, REQUEST, REPORT);
     }
 }
 
@@ -71,30 +115,31 @@ fn agreement() {
     for _ in 0..random::IMAGES {
         let mut image = random.image();
         for _ in 0..random::RUNS {
-            let (length, start, clock, budget) = random.run();
+            let (length, start, clock, request) = random.run();
             let (mut m, mut n) = (start, start);
             let (mut k, mut l) = (clock, clock);
             let mut copy = image.clone();
-            let report = proved(&mut image[..length], &mut m, &mut k, budget);
-            assert_eq!(report, plain::run(&mut copy[..length], &mut n, &mut l, budget));
+            let report = proved(&mut image[..length], &mut m, &mut k, request);
+            assert_eq!(report, plain::run(&mut copy[..length], &mut n, &mut l, request));
             assert_eq!((m, k), (n, l));
             assert!(image == copy);
-            assert_eq!(unsafe { machine_due(k, clock) }, plain::due(k, clock));
-            assert_eq!(unsafe { machine_due(clock, budget) }, plain::due(clock, budget));
+            for (now, deadline) in [(k.common, clock.common), (clock.common, request.budget)] {
+                assert_eq!(unsafe { machine_due(now, deadline) }, plain::due(now, deadline));
+            }
             *counts.entry(format!("{:?}", report.outcome)).or_insert(0) += 1;
         }
     }
     println!("{} random runs agree: {counts:?}", random::IMAGES * random::RUNS);
 }
 
-type Run = fn(&mut [u16], &mut Machine, &mut u32, u32) -> Report;
+type Run = fn(&mut [u16], &mut Machine, &mut Clock, Request) -> Report;
 
 /// A program under way, and the time that its runs took.
 struct Timed {
     run: Run,
     image: Vec<u16>,
     machine: Machine,
-    clock: u32,
+    clock: Clock,
     time: Duration,
 }
 
@@ -102,18 +147,19 @@ impl Timed {
     fn new(program: &Program, run: Run) -> Timed {
         let p = program.entry;
         let machine = Machine { a: 0, b: 0, c: false, p, switches: [false; 4], halted: false };
-        Timed { run, image: program.image.clone(), machine, clock: 0, time: Duration::ZERO }
+        let clock = Clock { common: 0, counts: [0; 16] };
+        Timed { run, image: program.image.clone(), machine, clock, time: Duration::ZERO }
     }
 
     fn go_on(&mut self) {
         let start = processor::time();
-        let report = (self.run)(&mut self.image, &mut self.machine, &mut self.clock, BUDGET);
+        let report = (self.run)(&mut self.image, &mut self.machine, &mut self.clock, ASKED);
         self.time += processor::time() - start;
-        assert_eq!(report, Report { outcome: Outcome::Spent, steps: BUDGET });
+        assert_eq!(report, Report { outcome: Outcome::Spent, steps: ASKED.budget });
     }
 
     fn nanoseconds(&self) -> f64 {
-        self.time.as_secs_f64() * 1e9 / f64::from(RUNS * BUDGET)
+        self.time.as_secs_f64() * 1e9 / f64::from(RUNS * ASKED.budget)
     }
 }
 

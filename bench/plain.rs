@@ -21,6 +21,19 @@ pub struct Machine {
     pub halted: bool,
 }
 
+/// The steps of all runs, and those of each cooperative.
+#[derive(Clone, Copy, Debug, PartialEq)]
+pub struct Clock {
+    pub common: u32,
+    pub counts: [u32; 16],
+}
+
+#[derive(Clone, Copy)]
+pub struct Request {
+    pub budget: u32,
+    pub cooperative: u32,
+}
+
 #[derive(Clone, Copy, Debug, PartialEq)]
 pub struct Report {
     pub outcome: Outcome,
@@ -29,21 +42,25 @@ pub struct Report {
 
 type Image = [u16; WORDS];
 
-/// A run of up to `budget` steps.
+/// A run of up to the budget's steps.
 #[inline(never)]
-pub fn run(image: &mut [u16], m: &mut Machine, clock: &mut u32, budget: u32) -> Report {
+pub fn run(image: &mut [u16], m: &mut Machine, clock: &mut Clock, request: Request) -> Report {
     let refused = |number| Report { outcome: Outcome::Failed(number), steps: 0 };
+    let Some(count) = clock.counts.get_mut(request.cooperative as usize) else {
+        return refused(27);
+    };
     let Ok(image) = <&mut Image>::try_from(image) else {
         return refused(1);
     };
     if m.p > ADDRESS {
         return refused(23);
     }
-    if budget > 1_000_000 {
+    if request.budget > 1_000_000 {
         return refused(22);
     }
-    let report = steps(image, m, budget);
-    *clock = clock.wrapping_add(report.steps);
+    let report = steps(image, m, request.budget);
+    *count = count.wrapping_add(report.steps);
+    clock.common = clock.common.wrapping_add(report.steps);
     report
 }
 

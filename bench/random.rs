@@ -1,6 +1,6 @@
 //! Random images and starts that reach every outcome.
 
-use crate::plain::{Machine, WORDS};
+use crate::plain::{Clock, Machine, Request, WORDS};
 
 pub const IMAGES: u32 = 4_000;
 pub const RUNS: u32 = 25;
@@ -78,8 +78,13 @@ impl Random {
             .collect()
     }
 
-    /// The image's length, the machine, the clock and the budget: most are allowed.
-    pub fn run(&mut self) -> (usize, Machine, u32, u32) {
+    /// Any number of 32 bits, or one that will soon wrap.
+    fn count(&mut self) -> u32 {
+        if self.one_in(2) { self.next() as u32 } else { 0u32.wrapping_sub(self.below(20) as u32) }
+    }
+
+    /// The image's length, the machine, the clock record and the request: most are allowed.
+    pub fn run(&mut self) -> (usize, Machine, Clock, Request) {
         let length = if self.one_in(40) { self.below(WORDS as u64 + 2) as usize } else { WORDS };
         let p = if self.one_in(40) { self.word() } else { self.word() % WORDS as u16 };
         let m = Machine {
@@ -90,8 +95,13 @@ impl Random {
             switches: [self.one_in(2), self.one_in(2), self.one_in(2), self.one_in(2)],
             halted: self.one_in(40),
         };
-        let clock = if self.one_in(2) { self.next() as u32 } else { 0u32.wrapping_sub(self.below(20) as u32) };
+        let clock = Clock { common: self.count(), counts: std::array::from_fn(|_| self.count()) };
         let budget = if self.one_in(40) { self.next() as u32 } else { self.below(30) as u32 };
-        (length, m, clock, budget)
+        let cooperative = match self.below(80) {
+            0 => 16,
+            1 => self.next() as u32,
+            n => n as u32 % 16,
+        };
+        (length, m, clock, Request { budget, cooperative })
     }
 }

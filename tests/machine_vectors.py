@@ -4,8 +4,9 @@
     python3 tests/machine_vectors.py VECTORS
 
 crates/machine_vectors/stdin has the cases' inputs: their count, then for each case
-A B C P, the four sense switches, halted, clock, budget, the count of words and for each
-its address and value; all decimal, each number followed by one blank or newline.
+A B C P, the four sense switches, halted, clock, budget, cooperative, the sixteen counts,
+the count of words and for each its address and value; all decimal, each number followed
+by one blank or newline.
 crates/machine_vectors/stdout has the expected lines, as the vectors have them.
 """
 import pathlib
@@ -29,11 +30,15 @@ def main(vectors):
             write.append(line)
         elif kind == "in":
             state = inputs(fields)
+        elif kind == "coop":
+            state += fields
         elif kind == "out":
             expected = True
             write.append(line)
-        elif kind == "word" and expected:
+        elif kind in ("counts", "word") and expected:
             write.append(line)
+        elif kind == "counts":
+            state += fields
         elif kind == "word":
             words += [int(field, 8) for field in fields]
         elif kind == "end":

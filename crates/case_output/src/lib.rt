@@ -54,6 +54,14 @@ pub fn flag(b: bool) {
     }
 }
 
+// A blank and a number for each count of a clock record.
+pub fn counts(counts: [u32; 16]) {
+    for i in 0..16usize {
+        text(b" ");
+        decimal(counts[i]);
+    }
+}
+
 fn outcome(o: Outcome) {
     match o {
         Outcome::Halted => text(b"halted 0"),

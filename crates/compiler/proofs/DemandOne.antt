@@ -9,17 +9,17 @@ use lib.Dec.{eqb, leb}
 use lib.ListN.{length}
 use Rattle.prelude.specs.Choice.{whether}
 use Rattle.machine.specs.declared.Outcome.{Outcome}
-use Rattle.machine.specs.Failure.{wrongImage, overBudget, wrongP, refused}
+use Rattle.machine.specs.Failure.{wrongImage, overBudget, wrongP, wrongCooperative, refused}
 use Rattle.machine.specs.Clock.{spendMany}
 use Rattle.machine.specs.Run.{Ran, idle, reportOf}
 use Rattle.runs.specs.Outcomes.{Refusal}
+use Rattle.runs.specs.Calls.{RunCall, asked, RunCalled}
 use Rattle.runs.proofs.RunLaws.{run-laws}
 use Rattle.compilation.specs.Compile.{Result, compileDef}
 use Rattle.memory_map.proofs.MapLaws.{map-laws}
 use Rattle.parsing_laws.proofs.Parsed.Programs.{numbered, short-enough}
 use Rattle.compiler.specs.declared.Answer.{Answer}
 use Rattle.compiler.specs.Compile.{scratchWords, resultOn, answerOf, imageAfter}
-use Rattle.compiler.specs.DemandThree.{RunCall, asked, RunCalled}
 use Rattle.compiler.specs.DemandOne.{CompileEnds, RunEnds, Demand1Called}
 use Rattle.layout.specs.Addresses.{memoryWords}
 
@@ -58,9 +58,10 @@ module _ (c : RunCall) (call : RunCalled c) where
           omega arith
 
       by-cause : (n : ℕ) → Refusal (c .turn .request) (c .start) n → asked c ≡ idle (Outcome.Failed n) (c .start) → ⊥
-      by-cause n (Refusal.of-image h) a = absurd-at wrongImage refl a
-      by-cause n (Refusal.of-p h l) a = absurd-at wrongP refl a
-      by-cause n (Refusal.of-budget h l) a = absurd-at overBudget refl a
+      by-cause n (Refusal.of-cooperative h) a = absurd-at wrongCooperative refl a
+      by-cause n (Refusal.of-image c h) a = absurd-at wrongImage refl a
+      by-cause n (Refusal.of-p c h l) a = absurd-at wrongP refl a
+      by-cause n (Refusal.of-budget c h l) a = absurd-at overBudget refl a
 
   by-refusal : (b : Bool) → refused (asked c .outcome) ≡ b → (o : Outcome) → asked c .outcome ≡ o → RunEnds c
   by-refusal false e o u =

@@ -7,10 +7,11 @@ use native.Mathlib.Omega.{arith}
 use lib.Dec.{eqb, leb}
 use lib.ListN.{length}
 use Rattle.prelude.specs.Choice.{whether}
-use Rattle.machine.specs.declared.Clock.{Clock}
-use Rattle.machine.specs.Run.{Ran, runDef, reportOf}
+use Rattle.machine.specs.Clock.{startClock}
+use Rattle.machine.specs.Run.{Ran, runDef}
 use Rattle.machine.specs.State as machine
 use Rattle.runs.specs.Runs.{Turn, Total, withRun, runsDef, Comes}
+use Rattle.runs.specs.Calls.{RunCall, asked, told, RunCalled, callOf}
 use Rattle.tree.specs.Tree.{Program}
 use Rattle.compilation.specs.Compile.{Compiled, Result, compileDef}
 use Rattle.semantics.specs.Trace.{State}
@@ -19,7 +20,7 @@ use Rattle.semantics.proofs.Demand.Theorem.{demand3}
 use Rattle.semantics.proofs.Demand.Loading as loading
 use Rattle.compiler.specs.declared.Answer.{Answer}
 use Rattle.compiler.specs.Compile.{scratchWords, resultOn, answerOf, imageAfter}
-use Rattle.compiler.specs.DemandThree.{RunCall, asked, told, RunCalled, Calls, delivered, Accepted, Demand3Called}
+use Rattle.compiler.specs.DemandThree.{Calls, delivered, Accepted, Demand3Called}
 use Rattle.layout.specs.Addresses.{memoryWords}
 
 -- ---- What calls come to, runs come to
@@ -39,16 +40,10 @@ comes Calls.none = Comes.list []
 comes (Calls.one c call rest) = comes-more c call (comes rest)
 
 -- and what runs come to, calls come to, whatever the clock
-call-at : Turn → machine.State → RunCall
-call-at v s =
-    let r = runDef (v .request) s in
-    let clock : Clock = record { common = 0 } in
-    record { turn = v; clock = clock; start = s; report = reportOf (v .request) clock r; image = r .state .image }
-
 called : (vs : List Turn) (s : machine.State) → Calls s (runsDef vs s)
-unfolding runsDef call-at
+unfolding runsDef
 called [] s = Calls.none
-called (v ∷ vs) s = Calls.one (call-at v s) (record { reported = refl; left = refl }) (called vs (runDef (v .request) s .state))
+called (v ∷ vs) s = Calls.one (callOf v startClock s) (record { reported = refl; left = refl }) (called vs (runDef (v .request) s .state))
 
 -- a statement about what lists come to holds of fewer lists too
 fewer : {p : Program} {σ : State} {C D : Total → Type 0} → ((t : Total) → D t → C t) → Agrees p σ C → Agrees p σ D

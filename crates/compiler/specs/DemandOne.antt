@@ -6,10 +6,10 @@ use lib.ListN.{length, replicate}
 use Rattle.machine.specs.Clock.{spendMany}
 use Rattle.machine.specs.Run.{refusalOf}
 use Rattle.runs.specs.Outcomes.{Ended, Refusal}
+use Rattle.runs.specs.Calls.{RunCall, told, RunCalled}
 use Rattle.parsing_laws.specs.Numbered.{Numbered}
 use Rattle.compiler.specs.declared.Answer.{Answer}
 use Rattle.compiler.specs.Compile.{scratchWords, CompileCalled}
-use Rattle.compiler.specs.DemandThree.{RunCall, told, RunCalled}
 use Rattle.layout.specs.Addresses.{memoryWords}
 
 -- of `compile` (demand 1a); each way to fail leaves the image as it was (demand 1c)
@@ -25,9 +25,9 @@ pub data CompileEnds (source image scratch : List ℕ) (r : Answer) (image' : Li
 
 -- of `run` (demand 1b)
 pub data RunEnds (c : RunCall) : Type 0 where
-  -- 1, 23 or 22, just on its cause: 0 steps, and everything as it was (R7, J12, demand 1d)
+  -- 27, 1, 23 or 22, just on its cause: 0 steps, and everything as it was (R7, J12, demand 1d)
   refused : (n : ℕ) → Refusal (c .turn .request) (c .start) n → c .report ≡ refusalOf n (c .start .machine) (c .clock) → c .image ≡ c .start .image → RunEnds c
-  -- halted, spent, or 20 or 21 with the state before that step (R6, demand 1d): the steps that it reports were made, and the clock counts them
+  -- halted, spent, or 20 or 21 with the state before that step (R6, demand 1d): the steps that it reports were made, and the clock record counts them
   ended : ((n : ℕ) → Refusal (c .turn .request) (c .start) n → ⊥) → Ended (c .turn .request .budget) (c .start) (told c)
       → c .report .clock ≡ spendMany (c .turn .request) (c .report .steps) (c .clock) → RunEnds c
 

@@ -2,12 +2,9 @@
 use Prim.Native.Nat.{ℕ}
 use mathlib.Core.Path.{_≡_}
 use mathlib.Core.List.{List}
-use Rattle.machine.specs.declared.Clock.{Clock}
-use Rattle.machine.specs.declared.Request.{Request}
-use Rattle.machine.specs.declared.Report.{Report}
 use Rattle.machine.specs.State as machine
-use Rattle.machine.specs.Run.{work, Ran, ran, runDef, reportOf}
 use Rattle.runs.specs.Runs.{Turn, Total, noRun, withRun, runsDef}
+use Rattle.runs.specs.Calls.{RunCall, told, RunCalled}
 use Rattle.tree.specs.Tree.{Program}
 use Rattle.compilation.specs.Compile.{Compiled, Result, compileDef}
 use Rattle.semantics.specs.Trace.{State}
@@ -17,33 +14,8 @@ use Rattle.compiler.specs.Compile.{CompileCalled}
 
 -- ---- The calls
 
--- one call of `run`: what it is handed, and what it gives back
-pub record RunCall : Type 0 where
-  pub turn : Turn
-  pub clock : Clock
-  pub start : machine.State
-  pub report : Report
-  pub image : List ℕ
-
-abbrev pub runCall : Request → Clock → machine.State → Report → List ℕ → RunCall
-runCall request clock start report image =
-    record { turn = record { request = request }; clock = clock; start = start; report = report; image = image }
-
--- the run that it asks for
-abbrev pub asked : RunCall → Ran
-asked c = runDef (c .turn .request) (c .start)
-
--- and the one that its report tells of
-abbrev pub told : RunCall → Ran
-told c = ran (work (c .report .steps)) (c .report .outcome) (machine.state (c .report .machine) (c .image))
-
--- what such a call ensures, no more. Of `compile` that is `CompileCalled`, its contract
-pub record RunCalled (c : RunCall) : Type 0 where
-  pub reported : c .report ≡ reportOf (c .turn .request) (c .clock) (asked c)
-  pub left : c .image ≡ asked c .state .image
-
 -- a list of calls of `run` from a state, each on the state that the one before it left, and what it comes to (R10, demand 3e).
--- The clock is the service's, which others' runs move on too: each call may have any
+-- The clock record is the service's, which others' runs move on too: each call may have any, and any cooperative
 pub data Calls : machine.State → Total → Type 0 where
   none : {s : machine.State} → Calls s (noRun s)
   one : (c : RunCall) {t : Total} → RunCalled c → Calls (told c .state) t → Calls (c .start) (withRun (c .turn) (told c) t)

@@ -57,16 +57,17 @@ shapes = refl
 -- ---- The words (O3)
 
 words :
-    map wordsOf (1 ∷ 7 ∷ 14 ∷ 20 ∷ 23 ∷ 24 ∷ [])
+    map wordsOf (1 ∷ 7 ∷ 14 ∷ 20 ∷ 23 ∷ 24 ∷ 27 ∷ [])
     ≡ bytes "the image has not 16,384 words" ∷ bytes "name undeclared or of the wrong kind" ∷ bytes "more initial values than elements"
-    ∷ bytes "the word at P is no instruction; often a subscript left its array" ∷ bytes "P is outside the 16,384 words" ∷ bytes "more than 32,767 litres" ∷ []
+    ∷ bytes "the word at P is no instruction; often a subscript left its array" ∷ bytes "P is outside the 16,384 words" ∷ bytes "more than 32,767 litres"
+    ∷ bytes "cooperative above 15" ∷ []
 unfolding wordsOf find
 words = refl
 
 abbrev noWords : List ℕ
 noWords = bytes "no failure has this number"
 
-no-words : map wordsOf (0 ∷ 15 ∷ 19 ∷ 27 ∷ []) ≡ noWords ∷ noWords ∷ noWords ∷ noWords ∷ []
+no-words : map wordsOf (0 ∷ 15 ∷ 19 ∷ 28 ∷ []) ≡ noWords ∷ noWords ∷ noWords ∷ noWords ∷ []
 unfolding wordsOf find
 no-words = refl
 

@@ -33,6 +33,7 @@ failures =
     ∷ (24, "more than 32,767 litres")
     ∷ (25, "a farm's name is empty, without a newline, over 14 bytes, or has bytes outside 32 to 126")
     ∷ (26, "output too short, more than 1,000 farms, or not as many names as litres")
+    ∷ (27, "cooperative above 15")
     ∷ []
 
 unfoldable pub wordsOf : ℕ → List ℕ

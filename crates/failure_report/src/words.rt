@@ -68,6 +68,7 @@ pub fn put_words(out: &mut [u8], at: usize, number: u16) -> usize
             at,
             b"output too short, more than 1,000 farms, or not as many names as litres",
         ),
+        27 => put_text(out, at, b"cooperative above 15"),
         _ => put_text(out, at, b"no failure has this number"),
     }
 }

@@ -58,7 +58,7 @@ machineAt a p =
     }
 
 abbrev run : Before → Ran
-run b = runDef (record { budget = b .budget }) (state (machineAt (b .a) (b .p)) (laid (b .words)))
+run b = runDef (record { budget = b .budget; cooperative = 15 }) (state (machineAt (b .a) (b .p)) (laid (b .words)))
 
 abbrev shown : Words → Ran → After
 shown asked r =

@@ -25,6 +25,10 @@ overBudget = 22
 abbrev pub wrongP : ℕ
 wrongP = 23
 
+-- a cooperative above 15 (F27)
+abbrev pub wrongCooperative : ℕ
+wrongCooperative = 27
+
 -- the failure's number, or 0 (C5)
 abbrev pub failureOf : Outcome → ℕ
 failureOf Halted = 0

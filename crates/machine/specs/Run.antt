@@ -3,7 +3,7 @@ use Prim.Native.Nat.{ℕ, zero, suc, _+_}
 use mathlib.Core.Path.{_≡_}
 use mathlib.Core.Bool.{cond}
 use mathlib.Core.List.{List}
-use lib.Dec.{eqb, ltb}
+use lib.Dec.{eqb, leb, ltb}
 use lib.ListN.{length}
 use Rattle.machine.specs.declared.Clock.{Clock}
 use Rattle.machine.specs.declared.Request.{Request}
@@ -11,10 +11,10 @@ use Rattle.machine.specs.declared.Outcome.{Outcome}
 use Rattle.machine.specs.declared.Outcome.the-variants.{Halted, Spent, Failed}
 use Rattle.machine.specs.declared.Machine.{Machine}
 use Rattle.machine.specs.declared.Report.{Report}
-use Rattle.machine.specs.Failure.{wrongImage, overBudget, wrongP}
+use Rattle.machine.specs.Failure.{wrongImage, overBudget, wrongP, wrongCooperative}
 use Rattle.machine.specs.State.{State}
 use Rattle.machine.specs.Step.{Step, made, failed, stepDef}
-use Rattle.machine.specs.Clock.{spendMany}
+use Rattle.machine.specs.Clock.{cooperatives, spendMany}
 
 -- what steps add up to: their number (R2)
 pub record Work : Type 0 where
@@ -61,17 +61,18 @@ unfoldable pub runFrom : ℕ → State → Ran
 runFrom zero s = idle (cond (s .machine .halted) Halted Spent) s
 runFrom (suc n) s = cond (s .machine .halted) (idle Halted s) (goOn s (λ (t : State). runFrom n t) (stepDef s))
 
--- the whole call (R2, demand 2c): refused with 1, 23 or 22 (R7, J12), else steps up to its budget, none of them made up (C3)
+-- the whole call (R2, demand 2c): refused with 27, 1, 23 or 22 (R7, J12), else steps up to its budget, none of them made up (C3)
 unfoldable pub runDef : Request → State → Ran
 runDef request s =
-    -- the causes of 1, 23 and 22 (F1, F22, F23)
-    cond (eqb (length (s .image)) 16384)
+    -- the causes of 27, 1, 23 and 22 (F27, F1, F23, F22)
+    cond (leb cooperatives (request .cooperative)) (idle (Failed wrongCooperative) s)
+    (cond (eqb (length (s .image)) 16384)
     (cond (ltb 16383 (s .machine .p)) (idle (Failed wrongP) s)
     (cond (ltb 1000000 (request .budget)) (idle (Failed overBudget) s)
     (runFrom (request .budget) s)))
-    (idle (Failed wrongImage) s)
+    (idle (Failed wrongImage) s))
 
--- the answer of a run that began at this clock, which its steps have moved on (R8)
+-- the answer of a run that began at this clock record, which its steps have moved on (R8, R12)
 abbrev pub endedOf : Request → Clock → Work → Outcome → Machine → Report
 endedOf request clock w o m = record { steps = w .steps; outcome = o; machine = m; clock = spendMany request (w .steps) clock }
 
@@ -79,7 +80,7 @@ endedOf request clock w o m = record { steps = w .steps; outcome = o; machine = 
 abbrev pub reportOf : Request → Clock → Ran → Report
 reportOf request clock r = endedOf request clock (r .work) (r .outcome) (r .state .machine)
 
--- the answer of a run that is refused: clock and machine are those handed in (R7)
+-- the answer of a run that is refused: clock record and machine are those handed in (R7)
 abbrev pub refusalOf : ℕ → Machine → Clock → Report
 refusalOf number m clock = record { steps = 0; outcome = Failed number; machine = m; clock = clock }
 

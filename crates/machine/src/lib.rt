@@ -3,7 +3,7 @@ ghost use mathlib.Core.Path.{_≡_};
 ghost use Prim.Native.Nat.{_<_};
 ghost use lib.ListN.{length};
 ghost use Rattle.machine.specs.State.{state};
-ghost use Rattle.machine.specs.Clock.{spendMany, dueOf};
+ghost use Rattle.machine.specs.Clock.{cooperatives, startClock, spendMany, dueOf};
 ghost use Rattle.machine.specs.Run.{work, endedOf, refusalOf, runFrom, runDef, Reports};
 use effect::Registers;
 use effect::Switches;
@@ -16,7 +16,12 @@ mod step;
 // How many words an image has: addresses wrap here.
 const MEMORY: u16 = 16384;
 
+const IMAGE_LENGTH: usize = MEMORY as usize;
+
 const LARGEST_BUDGET: u32 = 1000000;
+
+// How many cooperatives share a clock record.
+const COOPERATIVES: u32 = 16;
 
 // Half of the clock's range: a deadline that is this far behind, or further, counts as one ahead (R9).
 const HALF_RANGE: u32 = 2147483648;
@@ -28,14 +33,17 @@ pub struct Machine {
     pub halted: bool,
 }
 
-// The service clock, which counts the steps of all runs in 32 bits and wraps (R8).
+// The clock record: the steps of all runs, and beside them those of each cooperative, in 32 bits each, which wrap (R8, R12).
 pub struct Clock {
     pub common: u32,
+    pub counts: [u32; 16],
 }
 
 // What a run is asked for.
 pub struct Request {
     pub budget: u32,
+    // Which count its steps go to, 0 to 15.
+    pub cooperative: u32,
 }
 
 pub enum Outcome {
@@ -52,16 +60,32 @@ pub struct Report {
     pub clock: Clock,
 }
 
-// The clock after so many steps of a run.
-fn clock_after(request: Request, steps: u32, clock: Clock) -> Clock
-    ensures { λ r. ⌜ r ≡ spendMany request steps clock ⌝ }
+// The clock record that a service starts with.
+pub fn start_clock() -> Clock
+    ensures { λ r. ⌜ r ≡ startClock ⌝ }
 {
     Clock {
+        common: 0,
+        counts: [0; 16],
+    }
+}
+
+// The clock record after so many steps of a run.
+fn clock_after(request: Request, steps: u32, clock: Clock) -> Clock
+    requires { ⌜ request .cooperative < cooperatives ⌝ }
+    ensures { λ r. ⌜ r ≡ spendMany request steps clock ⌝ }
+{
+    let i = request.cooperative as usize;
+    let mut counts = clock.counts;
+    counts[i] = std::num::wrapping_add_u32(counts[i], steps);
+    Clock {
         common: std::num::wrapping_add_u32(clock.common, steps),
+        counts,
     }
 }
 
 fn ended(request: Request, steps: u32, outcome: Outcome, m: Machine, clock: Clock) -> Report
+    requires { ⌜ request .cooperative < cooperatives ⌝ }
     ensures { λ r. ⌜ r ≡ endedOf request clock (work steps) outcome m ⌝ }
 {
     Report {
@@ -83,9 +107,9 @@ fn refused(number: u16, m: Machine, clock: Clock) -> Report
     }
 }
 
-// Up to the budget's steps, on an image of the right length with P in it.
+// Up to the budget's steps, on an image of the right length with P in it, for a cooperative that has a count.
 fn make_steps(image: &mut [u16], m: Machine, clock: Clock, request: Request) -> Report
-    requires { ⌜ (length (now image) ≡ 16384) × (m .p < 16384) ⌝ }
+    requires { ⌜ (length (now image) ≡ 16384) × (m .p < 16384) × (request .cooperative < cooperatives) ⌝ }
     ensures { λ r. ⌜ Reports request clock (runFrom (request .budget) (state m (now (image .entry)))) r (now (image .exit)) ⌝ }
 {
     let table = instruction::table();
@@ -115,7 +139,10 @@ fn make_steps(image: &mut [u16], m: Machine, clock: Clock, request: Request) -> 
 pub fn run(image: &mut [u16], machine: Machine, clock: Clock, request: Request) -> Report
     ensures { λ r. ⌜ Reports request clock (runDef request (state machine (now (image .entry)))) r (now (image .exit)) ⌝ }
 {
-    if image.len() != MEMORY as usize {
+    if COOPERATIVES <= request.cooperative {
+        return refused(failure::WRONG_COOPERATIVE, machine, clock);
+    }
+    if image.len() != IMAGE_LENGTH {
         return refused(failure::WRONG_IMAGE, machine, clock);
     }
     if MEMORY <= machine.p {

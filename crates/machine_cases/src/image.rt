@@ -1,5 +1,5 @@
 // The image that all cases run on.
-ghost use mathlib.Core.Path.{_≡_};
+ghost use Prim.Native.Nat.{_≤_};
 ghost use lib.ListN.{length};
 
 // An endless loop.
@@ -19,7 +19,7 @@ pub const NOPS: u16 = 0o1400;
 
 // 17 words that lead on to the next; the last one is not indirect.
 fn lay_chain(image: &mut [u16])
-    requires { ⌜ length (now image) ≡ 16385 ⌝ }
+    requires { ⌜ 16384 ≤ length (now image) ⌝ }
 {
     for i in 0o200..0o220u16 {
         image[i as usize] = 0o100000 + i + 1;
@@ -28,7 +28,7 @@ fn lay_chain(image: &mut [u16])
 }
 
 pub fn lay(image: &mut [u16])
-    requires { ⌜ length (now image) ≡ 16385 ⌝ }
+    requires { ⌜ 16384 ≤ length (now image) ⌝ }
 {
     lay_chain(&mut *image);
     image[0] = 0o4321; // X

@@ -5,8 +5,9 @@ ghost use lib.ListN.{length};
 ghost use Rattle.word.specs.Arithmetic.{bit};
 ghost use Rattle.machine.specs.Failure.{failureOf};
 ghost use Rattle.machine.specs.Clock.{dueOf};
-ghost use Rattle.machine_export.specs.Places.{COUNT};
-ghost use Rattle.machine_export.specs.Export.{wordsFit, flagsFit, Fitting, fitsOf, flagOf, machineOf, outcomeOf, withMachine, withReport, Called};
+ghost use Rattle.machine_export.specs.Places.{MACHINE, CLOCK, REPORT};
+ghost use Rattle.machine_export.specs.Export.{numbers, sized, wordsFit, flagsFit, WordsFit, fitsOf, flagOf, machineOf, clockOf};
+ghost use Rattle.machine_export.specs.Export.{outcomeOf, withMachine, clockNumbers, withReport, Called};
 use effect::Registers;
 use effect::Switches;
 use machine::Clock;
@@ -33,71 +34,106 @@ const SWITCH_4: usize = 7;
 
 const HALTED: usize = 8;
 
-const CLOCK: usize = 9;
+const MACHINE: usize = 9;
 
-const BUDGET: usize = 10;
+const COMMON: usize = 0;
 
-const OUTCOME: usize = 11;
+const COUNTS: usize = 1;
 
-const FAILURE: usize = 12;
+const CLOCK: usize = 17;
 
-const STEPS: usize = 13;
+const BUDGET: usize = 0;
 
-const COUNT: usize = 14;
+const COOPERATIVE: usize = 1;
 
-fn words_fit(numbers: &[u32]) -> bool
-    requires { ⌜ length (now numbers) ≡ COUNT ⌝ }
-    ensures { λ r. ⌜ r ≡ wordsFit (now (numbers .entry)) ⌝ }
+const REQUEST: usize = 2;
+
+const OUTCOME: usize = 0;
+
+const FAILURE: usize = 1;
+
+const STEPS: usize = 2;
+
+const REPORT: usize = 3;
+
+const COOPERATIVES: usize = 16;
+
+fn sizes_fit(machine: &[u32], clock: &[u32], request: &[u32], report: &[u32]) -> bool
+    ensures { λ r. ⌜ r ≡ sized (numbers (now (machine .entry)) (now (clock .entry)) (now (request .entry)) (now (report .entry))) ⌝ }
 {
-    numbers[A] <= 65535 && numbers[B] <= 65535 && numbers[P] <= 65535
+    machine.len() == MACHINE
+        && clock.len() == CLOCK
+        && request.len() == REQUEST
+        && report.len() == REPORT
 }
 
-fn flags_fit(numbers: &[u32]) -> bool
-    requires { ⌜ length (now numbers) ≡ COUNT ⌝ }
-    ensures { λ r. ⌜ r ≡ flagsFit (now (numbers .entry)) ⌝ }
+fn words_fit(machine: &[u32]) -> bool
+    requires { ⌜ length (now machine) ≡ MACHINE ⌝ }
+    ensures { λ r. ⌜ r ≡ wordsFit (now (machine .entry)) ⌝ }
 {
-    numbers[C] <= 1
-        && numbers[SWITCH_1] <= 1
-        && numbers[SWITCH_2] <= 1
-        && numbers[SWITCH_3] <= 1
-        && numbers[SWITCH_4] <= 1
-        && numbers[HALTED] <= 1
+    machine[A] <= 65535 && machine[B] <= 65535 && machine[P] <= 65535
 }
 
-// Whether the numbers are a machine's: all there, words where words are due, and flags of 0 or 1.
-fn fits(numbers: &[u32]) -> bool
-    ensures { λ r. ⌜ r ≡ fitsOf (now (numbers .entry)) ⌝ }
+fn flags_fit(machine: &[u32]) -> bool
+    requires { ⌜ length (now machine) ≡ MACHINE ⌝ }
+    ensures { λ r. ⌜ r ≡ flagsFit (now (machine .entry)) ⌝ }
 {
-    numbers.len() == COUNT && words_fit(numbers) && flags_fit(numbers)
+    machine[C] <= 1
+        && machine[SWITCH_1] <= 1
+        && machine[SWITCH_2] <= 1
+        && machine[SWITCH_3] <= 1
+        && machine[SWITCH_4] <= 1
+        && machine[HALTED] <= 1
 }
 
-fn flag(numbers: &[u32], place: usize) -> bool
-    requires { ⌜ place < length (now numbers) ⌝ }
-    ensures { λ r. ⌜ r ≡ flagOf (now (numbers .entry)) place ⌝ }
+// Whether the numbers are a call's: all there, words where words are due, and flags of 0 or 1.
+fn fits(machine: &[u32], clock: &[u32], request: &[u32], report: &[u32]) -> bool
+    ensures { λ r. ⌜ r ≡ fitsOf (numbers (now (machine .entry)) (now (clock .entry)) (now (request .entry)) (now (report .entry))) ⌝ }
 {
-    numbers[place] == 1
+    sizes_fit(machine, clock, request, report) && words_fit(machine) && flags_fit(machine)
 }
 
-fn machine_of(numbers: &[u32]) -> Machine
-    requires { ⌜ Fitting (now numbers) ⌝ }
-    ensures { λ r. ⌜ r ≡ machineOf (now (numbers .entry)) ⌝ }
+fn flag(machine: &[u32], place: usize) -> bool
+    requires { ⌜ place < length (now machine) ⌝ }
+    ensures { λ r. ⌜ r ≡ flagOf (now (machine .entry)) place ⌝ }
+{
+    machine[place] == 1
+}
+
+fn machine_of(machine: &[u32]) -> Machine
+    requires { ⌜ (length (now machine) ≡ MACHINE) × WordsFit (now machine) ⌝ }
+    ensures { λ r. ⌜ r ≡ machineOf (now (machine .entry)) ⌝ }
 {
     let registers = Registers {
-        a: numbers[A] as u16,
-        b: numbers[B] as u16,
-        c: flag(numbers, C),
+        a: machine[A] as u16,
+        b: machine[B] as u16,
+        c: flag(machine, C),
     };
     let switches = Switches {
-        one: flag(numbers, SWITCH_1),
-        two: flag(numbers, SWITCH_2),
-        three: flag(numbers, SWITCH_3),
-        four: flag(numbers, SWITCH_4),
+        one: flag(machine, SWITCH_1),
+        two: flag(machine, SWITCH_2),
+        three: flag(machine, SWITCH_3),
+        four: flag(machine, SWITCH_4),
     };
     Machine {
         registers,
-        p: numbers[P] as u16,
+        p: machine[P] as u16,
         switches,
-        halted: flag(numbers, HALTED),
+        halted: flag(machine, HALTED),
+    }
+}
+
+fn clock_of(clock: &[u32]) -> Clock
+    requires { ⌜ length (now clock) ≡ CLOCK ⌝ }
+    ensures { λ r. ⌜ r ≡ clockOf (now (clock .entry)) ⌝ }
+{
+    let mut counts = [0u32; COOPERATIVES];
+    for i in 0..COOPERATIVES {
+        counts[i] = clock[COUNTS + i];
+    }
+    Clock {
+        common: clock[COMMON],
+        counts,
     }
 }
 
@@ -128,7 +164,7 @@ fn failure(ended: Outcome) -> u32
 }
 
 fn put_machine(numbers: &mut [u32], machine: Machine)
-    requires { ⌜ length (now numbers) ≡ COUNT ⌝ }
+    requires { ⌜ length (now numbers) ≡ MACHINE ⌝ }
     ensures { λ _. ⌜ now (numbers .exit) ≡ withMachine (now (numbers .entry)) machine ⌝ }
 {
     let registers = machine.registers;
@@ -144,42 +180,60 @@ fn put_machine(numbers: &mut [u32], machine: Machine)
     numbers[HALTED] = number(machine.halted);
 }
 
+fn put_clock(numbers: &mut [u32], clock: Clock)
+    requires { ⌜ length (now numbers) ≡ CLOCK ⌝ }
+    ensures { λ _. ⌜ now (numbers .exit) ≡ clockNumbers clock ⌝ }
+{
+    let counts = clock.counts;
+    numbers[COMMON] = clock.common;
+    for i in 0..COOPERATIVES {
+        numbers[COUNTS + i] = counts[i];
+    }
+}
+
 fn put_report(numbers: &mut [u32], report: Report)
-    requires { ⌜ length (now numbers) ≡ COUNT ⌝ }
+    requires { ⌜ length (now numbers) ≡ REPORT ⌝ }
     ensures { λ _. ⌜ now (numbers .exit) ≡ withReport (now (numbers .entry)) report ⌝ }
 {
     let ended = report.outcome;
-    put_machine(&mut *numbers, report.machine);
-    numbers[CLOCK] = report.clock.common;
     numbers[OUTCOME] = outcome(ended);
     numbers[FAILURE] = failure(ended);
     numbers[STEPS] = report.steps;
 }
 
-// A run, and true; or false for numbers that are no machine's, and nothing changes.
+// A run, and true; or false for numbers that are no call's, and nothing changes.
 #[no_mangle]
-pub extern "C" fn machine_run(image: &mut [u16], numbers: &mut [u32]) -> bool
-    ensures { λ r. ⌜ Called (now (numbers .entry)) (now (image .entry)) r (now (numbers .exit)) (now (image .exit)) ⌝ }
+pub extern "C" fn machine_run(
+    image: &mut [u16],
+    machine: &mut [u32],
+    clock: &mut [u32],
+    request: &[u32],
+    report: &mut [u32],
+) -> bool
+    ensures { λ r. ⌜ Called
+        (numbers (now (machine .entry)) (now (clock .entry)) (now (request .entry)) (now (report .entry))) (now (image .entry)) r
+        (numbers (now (machine .exit)) (now (clock .exit)) (now (request .exit)) (now (report .exit))) (now (image .exit)) ⌝ }
 {
-    if fits(&*numbers) {
-        let start = machine_of(&*numbers);
-        let clock = Clock {
-            common: numbers[CLOCK],
+    if fits(&*machine, &*clock, request, &*report) {
+        let asked = Request {
+            budget: request[BUDGET],
+            cooperative: request[COOPERATIVE],
         };
-        let request = Request {
-            budget: numbers[BUDGET],
-        };
-        let report = machine::run(&mut *image, start, clock, request);
-        put_report(&mut *numbers, report);
+        let ran = machine::run(&mut *image, machine_of(&*machine), clock_of(&*clock), asked);
+        put_machine(&mut *machine, ran.machine);
+        put_clock(&mut *clock, ran.clock);
+        put_report(&mut *report, ran);
         return true;
     }
     false
 }
 
-// Whether the deadline has come at this clock.
+// Whether the deadline has come at this clock, the first number of the record.
 #[no_mangle]
 pub extern "C" fn machine_due(clock: u32, deadline: u32) -> bool
     ensures { λ r. ⌜ r ≡ dueOf clock deadline ⌝ }
 {
-    machine::due(Clock { common: clock }, deadline)
+    let mut record = machine::start_clock();
+    record.common = clock;
+    machine::due(record, deadline)
 }

@@ -6,9 +6,10 @@ use native.Mathlib.Nat.{add-assoc, suc-add}
 use native.Mathlib.Omega.{arith}
 use lib.ListN.{length, getD, take, drop}
 use lib.Seq.{take-at, drop-at, drop-drop}
+use Rattle.prelude.specs.Sum.{sum}
 use Rattle.page.specs.Names.{Name}
 use Rattle.page.specs.Page.{farmLine, linesFrom}
-use Rattle.page.specs.PageLaws.{lineAt, nameAt, sum}
+use Rattle.page.specs.PageLaws.{lineAt, nameAt}
 use Rattle.page.specs.Readings.{Sound}
 use Rattle.page.proofs.LineLaws.{Narrow, narrow, fewer, line-length}
 

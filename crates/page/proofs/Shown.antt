@@ -7,10 +7,11 @@ use native.Mathlib.Nat.{zero-add, suc-add, add-assoc}
 use native.Mathlib.Omega.{arith}
 use lib.ListN.{length, getD, take, drop}
 use lib.Seq.{drop-at, take-all}
+use Rattle.prelude.specs.Sum.{sum}
 use Rattle.digits.specs.Digits.{leftIn, shown}
 use Rattle.page.specs.Names.{namesOf}
 use Rattle.page.specs.Page.{pageOf, outputAfter, PageCalled}
-use Rattle.page.specs.PageLaws.{litresShown, totalShown, sum, plus, PageMade}
+use Rattle.page.specs.PageLaws.{litresShown, totalShown, plus, PageMade}
 use Rattle.page.specs.declared.Answer.{Answer}
 use Rattle.page.proofs.LineLaws.{line-name, line-litres, line-total}
 use Rattle.page.proofs.Rows.{Row, row}

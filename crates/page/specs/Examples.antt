@@ -7,10 +7,11 @@ use mathlib.Core.List.{List, [], _∷_, _++_, map}
 use mathlib.Core.Option.{Option, none, some}
 use lib.ListN.{replicate}
 use Rattle.prelude.specs.Text.{bytes, all}
+use Rattle.prelude.specs.Sum.{sum}
 use Rattle.digits.specs.Digits.{decimalBy, leftIn, rightIn, digitsFrom, shown}
 use Rattle.page.specs.Names.{Name, namesOf, goodName}
 use Rattle.page.specs.Page.{farmLine, linesFrom, pageOf, firstFailure, failureOf, answerOf, outputAfter}
-use Rattle.page.specs.PageLaws.{nameShown, litresShown, totalShown, sum}
+use Rattle.page.specs.PageLaws.{nameShown, litresShown, totalShown}
 use Rattle.page.specs.declared.Answer.{Answer}
 
 -- ---- The page of three farms (B1 to B3)

@@ -2,10 +2,11 @@
 use Prim.Native.Nat.{ℕ, _+_, _-_, _*_, _≤_, _<_}
 use mathlib.Core.Path.{_≡_}
 use mathlib.Core.Bool.{false}
-use mathlib.Core.List.{List, [], _∷_, _++_}
+use mathlib.Core.List.{List, [], _++_}
 use mathlib.Core.Option.{Option, none, some}
 use lib.ListN.{length, getD, take, drop, replicate}
 use Rattle.prelude.specs.Choice.{given}
+use Rattle.prelude.specs.Sum.{sum}
 use Rattle.digits.specs.Digits.{shown}
 use Rattle.page.specs.Names.{Name, namesOf}
 use Rattle.page.specs.Page.{PageCalled}
@@ -32,10 +33,6 @@ totalShown i page = shown (take 8 (drop 22 (lineAt i page)))
 -- the bytes of the i-th name
 abbrev pub nameAt : ℕ → List Name → List ℕ
 nameAt i names = (getD names i (record { text = []; ended = false })) .text
-
-unfoldable pub sum : List ℕ → ℕ
-sum [] = 0
-sum (n ∷ ns) = n + sum ns
 
 -- two numbers that are shown, added; none, where one of them is not shown
 abbrev pub plus : Option ℕ → Option ℕ → Option ℕ

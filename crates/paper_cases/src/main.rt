@@ -7,7 +7,6 @@ use effect::Registers;
 use effect::Switches;
 use libc::STDIN_FILENO;
 use libc::STDOUT_FILENO;
-use machine::Clock;
 use machine::Machine;
 use machine::Outcome;
 use machine::Request;
@@ -56,8 +55,11 @@ fn run(image: &mut [u16], entry: u16) {
     let report = machine::run(
         image,
         start,
-        Clock { common: 0 },
-        Request { budget: 1000000 },
+        machine::start_clock(),
+        Request {
+            budget: 1000000,
+            cooperative: 0,
+        },
     );
     let outcome = report.outcome;
     if let Outcome::Halted = outcome {

@@ -22,9 +22,9 @@ machineAt a p halted = record {
   halted = halted;
 }
 
--- on the whole budget
+-- on the largest budget, for the last cooperative
 abbrev pub run : Machine → List ℕ → Ran
-run m image = runDef (record { budget = 1000000 }) (state m image)
+run m image = runDef (record { budget = 1000000; cooperative = 15 }) (state m image)
 
 -- the first program of docs/REFERENCE.md (K1)
 abbrev pub firstProgram : List ℕ

@@ -14,7 +14,7 @@ use Rattle.instruction.specs.Encode.{shiftWord}
 use Rattle.machine.specs.declared.Request.{Request}
 use Rattle.machine.specs.declared.Outcome.the-variants.{Halted, Spent}
 use Rattle.machine.specs.State.{State, state}
-use Rattle.machine.specs.Clock.{dueOf}
+use Rattle.machine.specs.Clock.{cooperatives, dueOf}
 use Rattle.machine.specs.Run.{work, ran, idle, runDef}
 use Rattle.compilation.specs.Compile.{Result, compileDef}
 use Rattle.compilation.specs.Listing.{listingDef}
@@ -48,7 +48,7 @@ table =
     ∷ case "K4: a deadline one ahead: not due"
     ((n : ℕ) → dueOf n ((n + 1) % 2 ^ 32) ≡ false)
     ∷ case "K4: a budget of 0, not halted: spent after 0 steps"
-    ((q : Request) (s : State) → q .budget ≡ 0 → length (s .image) ≡ 16384 → s .machine .p < 16384 → s .machine .halted ≡ false
+    ((q : Request) (s : State) → q .cooperative < cooperatives → q .budget ≡ 0 → length (s .image) ≡ 16384 → s .machine .p < 16384 → s .machine .halted ≡ false
     → runDef q s ≡ idle Spent s)
     ∷ []
 

@@ -22,4 +22,4 @@ steps-keep (one {s = s} {t = t} h e r) g = steps-keep r (step-keeps s t g e)
 pub run-keeps : (q : Request) (s : State) → refused (runDef q s .outcome) ≡ false → Good (runDef q s .state)
 run-keeps q s h =
     let a = allowed q s h in
-    subst (λ (r : Ran). Good (r .state)) (sym (a .2)) (steps-keep (run-ends (q .budget) s .made) (a .0))
+    subst (λ (r : Ran). Good (r .state)) (sym (a .run)) (steps-keep (run-ends (q .budget) s .made) (a .good))

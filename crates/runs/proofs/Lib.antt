@@ -3,3 +3,4 @@ pub mod Refusals
 pub mod Keeping
 pub mod Lists
 pub mod RunLaws
+pub mod ClockLaws

@@ -1,5 +1,5 @@
 -- A list of runs as one iteration of the step, and what follows where the steps are known.
-use Prim.Native.Nat.{ℕ, zero, suc, _+_, _-_, _%_, _^_, _≤_, _<_}
+use Prim.Native.Nat.{ℕ, zero, suc, _+_, _-_, _≤_, _<_}
 use mathlib.Core.Path.{_≡_, refl, ap, sym, subst, _∙_}
 use mathlib.Core.Bool.{true, false, cond}
 use mathlib.Core.List.{List, [], _∷_}
@@ -15,10 +15,9 @@ use Rattle.machine.specs.State.{State}
 use Rattle.machine.specs.Step.{made, stepDef}
 use Rattle.machine.specs.Clock.{spend, spendMany}
 use Rattle.machine.specs.Run.{Work, noWork, addWork, Ran, idle, more, runFrom, runDef}
-use Rattle.machine.proofs.Ticks.{spend-many}
 use Rattle.machine.proofs.RunSteps.{add-work-assoc}
 use Rattle.runs.specs.Steps.{Steps, none, one}
-use Rattle.runs.specs.Runs.{Turn, Total, runsDef, clockAfter}
+use Rattle.runs.specs.Runs.{Turn, Total, runsDef}
 use Rattle.runs.specs.RunLaws.{withBudget, Resumed, AsOne}
 use Rattle.runs.proofs.Iteration.{steps-join, steps-split, steps-running, run-exact, run-halts, run-plus, run-add}
 use Rattle.runs.proofs.Refusals.{Decision, refuses, permits, decided, not-refused, allowed, run-good}
@@ -43,13 +42,13 @@ iterates-by : (q : Request) (s : State) → Decision q s → Iterates q s
 unfolding allowance runFrom
 iterates-by q s (refuses n c r e) =
     iterates-as q s 0 (idle (Failed n) s) e (yes 0 (q .budget) (ap (λ (z : Ran). refused (z .outcome)) e ∙ r)) refl refl
-iterates-by q s (permits g b e) =
-    iterates-as q s (q .budget) (runFrom (q .budget) s) e
-    (no 0 (q .budget) (ap (λ (z : Ran). refused (z .outcome)) e ∙ not-refused (q .budget) s)) refl refl
+iterates-by q s (permits a) =
+    iterates-as q s (q .budget) (runFrom (q .budget) s) (a .run)
+    (no 0 (q .budget) (ap (λ (z : Ran). refused (z .outcome)) (a .run) ∙ not-refused (q .budget) s)) refl refl
 
 pub list : (vs : List Turn) (s : State) → AsOne vs s
-unfolding runsDef clockAfter allowance runFrom
-list [] s = record { state = refl; work = refl; clock = λ k h. omega arith }
+unfolding runsDef allowance runFrom
+list [] s = record { state = refl; work = refl }
 list (v ∷ vs) s =
     let q = v .request in
     let i = iterates-by q s (decided q s) in
@@ -64,11 +63,6 @@ list (v ∷ vs) s =
           ap (addWork (r .work)) (l .work ∙ ap (λ (u : State). runFrom m u .work) (i .state))
           ∙ ap (λ (w : Work). addWork w (runFrom m (runFrom n s .state) .work)) (i .work)
           ∙ sym (a .work);
-      clock = λ k h.
-          let k₁ = spendMany q (r .work .steps) k in
-          let c : k₁ .common ≡ (k .common + r .work .steps) % 2 ^ 32 = ap (λ (x : Clock). x .common) (spend-many q (r .work .steps) k h) in
-          let d = l .clock k₁ (omega arith) in
-          omega arith;
     }
 
 -- the clock after more steps, whatever the budget
@@ -90,7 +84,7 @@ resumed-as : (v : Turn) (n m : ℕ) (s : State)
     let second = runDef (withBudget v m .request) (first .state) in
     let whole = runDef (withBudget v (n + m) .request) s in
     refused (first .outcome) ≡ false → refused (second .outcome) ≡ false → whole ≡ more (first .work) second → Resumed v n m s
-unfolding runsDef clockAfter total
+unfolding runsDef total
 resumed-as v n m s g h e =
     let first = runDef (withBudget v n .request) s in
     let second = runDef (withBudget v m .request) (first .state) in
@@ -118,12 +112,12 @@ resumed v n m s h o =
     let ok : refused (runDef first s .outcome) ≡ false = ap refused o in
     let a = allowed first s ok in
     let u = runDef first s .state in
-    let e = a .2 in
-    let again = run-good second u (run-keeps first s ok) (omega arith) in
+    let e = a .run in
+    let again = run-good second u (a .cooperative) (run-keeps first s ok) (omega arith) in
     let spent : runFrom n s .outcome ≡ Spent = sym (ap (λ (r : Ran). r .outcome) e) ∙ o in
     resumed-as v n m s ok
     (ap (λ (r : Ran). refused (r .outcome)) again ∙ not-refused m u)
-    (run-good (withBudget v (n + m) .request) s (a .0) h
+    (run-good (withBudget v (n + m) .request) s (a .cooperative) (a .good) h
     ∙ run-plus n m s spent
     ∙ ap (λ (r : Ran). more (r .work) (runFrom m (r .state))) (sym e)
     ∙ ap (more (runDef first s .work)) (sym again))

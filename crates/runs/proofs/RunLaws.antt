@@ -15,10 +15,10 @@ use Rattle.runs.proofs.Keeping.{step-keeps, run-keeps}
 use Rattle.runs.proofs.Lists.{list, resumed, reached, halts, all-made}
 
 ended : (q : Request) (s : State) → refused (runDef q s .outcome) ≡ false → Ended (q .budget) s (runDef q s)
-ended q s h = subst (Ended (q .budget) s) (sym (allowed q s h .2)) (run-ends (q .budget) s)
+ended q s h = subst (Ended (q .budget) s) (sym (allowed q s h .run)) (run-ends (q .budget) s)
 
 halted : (q : Request) (s : State) → refused (runDef q s .outcome) ≡ false → s .machine .halted ≡ true → runDef q s ≡ idle Halted s
-halted q s h d = allowed q s h .2 ∙ run-halted (q .budget) s d
+halted q s h d = allowed q s h .run ∙ run-halted (q .budget) s d
 
 pub run-laws : RunLaws
 run-laws = record {

@@ -1,5 +1,5 @@
 -- The laws of runs, and of lists of them, over the definitions that the machine's function is proved to equal.
-use Prim.Native.Nat.{ℕ, suc, _+_, _%_, _^_, _≤_, _<_}
+use Prim.Native.Nat.{ℕ, suc, _+_, _≤_, _<_}
 use mathlib.Core.Path.{_≡_}
 use mathlib.Core.Bool.{true, false}
 use mathlib.Core.List.{List, [], _∷_}
@@ -11,31 +11,32 @@ use Rattle.machine.specs.State.{State, Good}
 use Rattle.machine.specs.Step.{made, stepDef}
 use Rattle.machine.specs.Run.{idle, runFrom, runDef}
 use Rattle.runs.specs.Steps.{Steps}
-use Rattle.runs.specs.Outcomes.{Ended, RefusedExactly}
-use Rattle.runs.specs.Runs.{Turn, runsDef, clockAfter}
+use Rattle.runs.specs.Outcomes.{Ended, RefusedExactly, Allowed}
+use Rattle.runs.specs.Runs.{Turn, runsDef}
+use Rattle.runs.specs.Calls.{told, callOf}
 
 -- v, but for its budget
 abbrev pub withBudget : Turn → ℕ → Turn
-withBudget v n = record { request = record { budget = n } }
+withBudget v n = record { request = record { budget = n; cooperative = v .request .cooperative } }
 
--- a run of n, then one of m that goes on from what it left, come to the run of n + m: in budgets, steps and state (image too), in the clock, and in the outcome
+-- a run of n, then one of m that goes on from what it left, come to the run of n + m: in budgets, steps and state (image too), in the outcome, and in the clock
+-- record that the second call leaves
 pub record Resumed (v : Turn) (n m : ℕ) (s : State) : Type 0 where
   pub total : runsDef (withBudget v n ∷ withBudget v m ∷ []) s ≡ runsDef (withBudget v (n + m) ∷ []) s
-  pub clock : (k : Clock) → clockAfter (withBudget v n ∷ withBudget v m ∷ []) s k ≡ clockAfter (withBudget v (n + m) ∷ []) s k
+  pub clock : (k : Clock) → let first = callOf (withBudget v n) k s in
+      callOf (withBudget v m) (first .report .clock) (told first .state) .report .clock ≡ callOf (withBudget v (n + m)) k s .report .clock
   pub outcome : runDef (withBudget v m .request) (runDef (withBudget v n .request) s .state) .outcome ≡ runDef (withBudget v (n + m) .request) s .outcome
 
--- a list of runs is one iteration of the step, for as many steps as it is granted (R10); the clock counts those made (R8)
+-- a list of runs is one iteration of the step, for as many steps as it is granted (R10)
 pub record AsOne (vs : List Turn) (s : State) : Type 0 where
   pub state : runsDef vs s .state ≡ runFrom (runsDef vs s .granted) s .state
   pub work : runsDef vs s .work ≡ runFrom (runsDef vs s .granted) s .work
-  pub clock : (k : Clock) → k .common < 2 ^ 32 → clockAfter vs s k .common ≡ (k .common + runsDef vs s .work .steps) % 2 ^ 32
 
 pub record RunLaws : Type 0 where
   -- a run is refused exactly on its cause
   pub refusals : (q : Request) (s : State) (n : ℕ) → RefusedExactly q s n
-  -- any other run is the iteration of the step up to its budget, from an image of 16,384 words with P in it
-  pub allowed : (q : Request) (s : State) → refused (runDef q s .outcome) ≡ false
-      → Good s × (q .budget ≤ 1000000) × (runDef q s ≡ runFrom (q .budget) s)
+  -- any other run is the iteration of the step
+  pub allowed : (q : Request) (s : State) → refused (runDef q s .outcome) ≡ false → Allowed q s
   -- it made the steps that it reports, and ended as its outcome says: none are made up (C3)
   pub ended : (q : Request) (s : State) → refused (runDef q s .outcome) ≡ false → Ended (q .budget) s (runDef q s)
   -- a halted state stays as it is, whatever the budget (R5)

@@ -2,11 +2,9 @@
 use Prim.Native.Nat.{ℕ, _+_}
 use mathlib.Core.Bool.{cond}
 use mathlib.Core.List.{List, [], _∷_}
-use Rattle.machine.specs.declared.Clock.{Clock}
 use Rattle.machine.specs.declared.Request.{Request}
 use Rattle.machine.specs.Failure.{refused}
 use Rattle.machine.specs.State.{State}
-use Rattle.machine.specs.Clock.{spendMany}
 use Rattle.machine.specs.Run.{Work, noWork, addWork, Ran, runDef}
 
 -- one run of a list: what is asked for (R10)
@@ -32,11 +30,6 @@ withRun v r t =
 unfoldable pub runsDef : List Turn → State → Total
 runsDef [] s = noRun s
 runsDef (v ∷ vs) s = let r = runDef (v .request) s in withRun v r (runsDef vs (r .state))
-
--- the clock after them, where nobody else's runs move it on (R8)
-unfoldable pub clockAfter : List Turn → State → Clock → Clock
-clockAfter [] s clock = clock
-clockAfter (v ∷ vs) s clock = let r = runDef (v .request) s in clockAfter vs (r .state) (spendMany (v .request) (r .work .steps) clock)
 
 -- some list of runs from a state comes to a total
 pub data Comes (s : State) : Total → Type 0 where

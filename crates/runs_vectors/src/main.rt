@@ -58,7 +58,11 @@ fn run_until(image: &mut [u16], m: Machine, clock: Clock, total: u32) -> Report 
     if clock.common <= total {
         budget = total - clock.common;
     }
-    machine::run(image, m, clock, Request { budget })
+    let request = Request {
+        budget,
+        cooperative: 15,
+    };
+    machine::run(image, m, clock, request)
 }
 
 // Where a run has stopped, and where the next case starts.
@@ -74,7 +78,7 @@ fn run_moments(text: &[u8], at: usize, image: &mut [u16], m: Machine) -> Stop {
     let last = count.value;
     let mut at = count.next;
     let mut m = m;
-    let mut clock = Clock { common: 0 };
+    let mut clock = machine::start_clock();
     for _ in 0..last {
         let moment = parse_number(text, at);
         let report = run_until(image, m, clock, moment.value);

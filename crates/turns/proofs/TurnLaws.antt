@@ -51,7 +51,7 @@ then-no-turn r o = λ i. ran (add-work-none (r .work) i) (sym o i) (r .state)
 
 -- a turn, as the iteration of the step
 turn-is : (s : State) → Good s → runDef oneTurn s ≡ runFrom 1000000 s
-turn-is s good = run-good oneTurn s good (omega arith)
+turn-is s good = run-good oneTurn s (omega arith) good (omega arith)
 
 accepted : (s : State) → Good s → refused (runDef oneTurn s .outcome) ≡ false
 accepted s good = ap (λ (r : Ran). refused (r .outcome)) (turn-is s good) ∙ not-refused 1000000 s
@@ -127,7 +127,8 @@ list-by n s (refuses f c r e) =
     let t = refusal (suc n) s (omega arith) (ap (λ (x : Ran). refused (x .outcome)) e ∙ r) ∙ e in
     let u = stays (suc n) s f e in
     record { state = ap (λ (x : Ran). x .state) t ∙ sym (u .0); work = ap (λ (x : Ran). x .work) t ∙ sym (u .1) }
-list-by n s (permits good b e) =
+list-by n s (permits a) =
+    let good = a .good in
     let t = as-one (suc n) s (omega arith) good in
     let l = runs.list (replicate (suc n) listed) s in
     let g = sym (granted-all (suc n) s good) in

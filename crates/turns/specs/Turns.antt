@@ -16,9 +16,9 @@ use Rattle.turns.specs.declared.Turned.{Turned}
 abbrev pub startMachine : ℕ → Switches → Machine
 startMachine entry switches = record { registers = record { a = 0; b = 0; c = false }; p = entry; switches = switches; halted = false }
 
--- what one turn asks for: the largest budget that a run may have (O7)
+-- what one turn asks for: the largest budget that a run may have, for cooperative 0 (O7)
 abbrev pub oneTurn : Request
-oneTurn = record { budget = 1000000 }
+oneTurn = record { budget = 1000000; cooperative = 0 }
 
 -- after a turn that ended so: a spent one is followed by others, any other is the last
 abbrev pub andThen : Ran → (State → Ran) → Outcome → Ran

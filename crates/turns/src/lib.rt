@@ -5,7 +5,6 @@ ghost use Rattle.turns.specs.Turns.{startMachine, turnsDef, Answers};
 ghost use Rattle.turns.specs.TurnLaws.{TurnLaws};
 use effect::Registers;
 use effect::Switches;
-use machine::Clock;
 use machine::Machine;
 use machine::Outcome;
 use machine::Request;
@@ -36,7 +35,7 @@ pub fn start(entry: u16, switches: Switches) -> Machine
     }
 }
 
-// The clock is no part of the answer, so each turn begins at 0. A turn makes less than 2^32 steps, so that those of all turns fit.
+// The clock record is no part of the answer, so each turn begins with one of zeros. A turn makes less than 2^32 steps, so that those of all turns fit.
 pub fn run_turns(image: &mut [u16], machine: Machine, turns: u32) -> Turned
     ensures { λ r. ⌜ Answers (turnsDef turns (state machine (now (image .entry)))) r (now (image .exit)) ⌝ }
 {
@@ -46,8 +45,11 @@ pub fn run_turns(image: &mut [u16], machine: Machine, turns: u32) -> Turned
         let report = machine::run(
             &mut *image,
             m,
-            Clock { common: 0 },
-            Request { budget: TURN },
+            machine::start_clock(),
+            Request {
+                budget: TURN,
+                cooperative: 0,
+            },
         );
         let outcome = report.outcome;
         m = report.machine;

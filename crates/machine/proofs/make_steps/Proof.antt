@@ -43,10 +43,10 @@ table-requires : tie.Need-table-requires Inv-loop μ-loop
 table-requires c κs = tt
 
 loop-holds : tie.Need-loop-holds Inv-loop μ-loop
-loop-holds c = (run-start _ _, c .before .before .pre, omega arith, refl)
+loop-holds c = (run-start _ _, (c .before .before .pre .0, c .before .before .pre .1), omega arith, refl)
 
 ended-requires : tie.Need-ended-requires Inv-loop μ-loop
-ended-requires c κs = tt
+ended-requires c κs = c .before .before .before .before .pre .2
 
 same-length : tie.Need-same-length Inv-loop μ-loop
 same-length c = search needs
@@ -55,7 +55,7 @@ returns : tie.Need-returns Inv-loop μ-loop
 returns c = rw (run-ended _ _ _ _ _ (c .before .before .loop .inv .0) (run-halted _ _ (c .before .if1 .taken))) (c .ended .ensures, refl)
 
 ended-requires-2 : tie.Need-ended-requires-2 Inv-loop μ-loop
-ended-requires-2 c κs = tt
+ended-requires-2 c κs = c .before .before .before .before .before .pre .2
 
 same-length-2 : tie.Need-same-length-2 Inv-loop μ-loop
 same-length-2 c = search needs
@@ -76,7 +76,7 @@ enum-known-stepped-2 : tie.Need-enum-known-stepped-2 Inv-loop μ-loop
 enum-known-stepped-2 c = search needs
 
 ended-requires-3 : tie.Need-ended-requires-3 Inv-loop μ-loop
-ended-requires-3 c κs = tt
+ended-requires-3 c κs = c .before .before .before .before .before .before .before .before .before .before .before .before .before .pre .2
 
 same-length-3 : tie.Need-same-length-3 Inv-loop μ-loop
 same-length-3 c =
@@ -87,7 +87,7 @@ returns-3 : tie.Need-returns-3 Inv-loop μ-loop
 returns-3 c = rw (run-ended _ _ _ _ _ (c .before .before .before .before .before .before .before .before .before .before .before .loop .inv .0) (run-failed _ _ (c .before .before .before .before .before .before .before .before .before .before .if1 .left) (omega arith) (failed-step (c .before .before) .0))) (c .ended3 .ensures, failed-step (c .before .before) .1)
 
 add-steps : tie.Need-add-steps Inv-loop μ-loop
-add-steps c = omega arith
+add-steps c = omega (arith, c .before .before .before .before .before .before .before .before .before .before .before .before .before .good .1 .1 .1 .0)
 
 loop-less : tie.Need-loop-less Inv-loop μ-loop
 loop-less c = omega arith

@@ -27,16 +27,16 @@ shared-slice-read-if5 c = search needs
 shared-slice-read-result : tie.Need-shared-slice-read-result
 shared-slice-read-result c = search needs
 
-at-if2 : (c : tie.Joined1) → let numbers = c .before .before .args .numbers .now in c .if1 .if2 ≡ (isFlag numbers C && isFlag numbers SWITCH-1)
+at-if2 : (c : tie.Joined1) → let machine = c .before .before .args .machine .now in c .if1 .if2 ≡ (isFlag machine C && isFlag machine SWITCH-1)
 at-if2 c = ⊎-elim (λ w. rw (le-leb _ 1 (w .0 .taken)) (w .2)) (λ w. rw (lt-leb _ 1 (w .0 .left)) (w .1 ∙ lt-leb _ 1 (w .0 .left))) (c .if1 .came)
 
-at-if3 : (c : tie.Joined2) → let numbers = c .before .before .before .args .numbers .now in c .if2 .if3 ≡ (isFlag numbers C && isFlag numbers SWITCH-1 && isFlag numbers SWITCH-2)
+at-if3 : (c : tie.Joined2) → let machine = c .before .before .before .args .machine .now in c .if2 .if3 ≡ (isFlag machine C && isFlag machine SWITCH-1 && isFlag machine SWITCH-2)
 at-if3 c = rw (← at-if2 (c .before)) (⊎-elim (λ w. rw (w .0 .taken) (w .2)) (λ w. rw (w .0 .left) (w .1 ∙ w .0 .left)) (c .if2 .came))
 
-at-if4 : (c : tie.Joined3) → let numbers = c .before .before .before .before .args .numbers .now in c .if3 .if4 ≡ (isFlag numbers C && isFlag numbers SWITCH-1 && isFlag numbers SWITCH-2 && isFlag numbers SWITCH-3)
+at-if4 : (c : tie.Joined3) → let machine = c .before .before .before .before .args .machine .now in c .if3 .if4 ≡ (isFlag machine C && isFlag machine SWITCH-1 && isFlag machine SWITCH-2 && isFlag machine SWITCH-3)
 at-if4 c = rw (← at-if3 (c .before)) (⊎-elim (λ w. rw (w .0 .taken) (w .2)) (λ w. rw (w .0 .left) (w .1 ∙ w .0 .left)) (c .if3 .came))
 
-at-if5 : (c : tie.Joined4) → let numbers = c .before .before .before .before .before .args .numbers .now in c .if4 .if5 ≡ (isFlag numbers C && isFlag numbers SWITCH-1 && isFlag numbers SWITCH-2 && isFlag numbers SWITCH-3 && isFlag numbers SWITCH-4)
+at-if5 : (c : tie.Joined4) → let machine = c .before .before .before .before .before .args .machine .now in c .if4 .if5 ≡ (isFlag machine C && isFlag machine SWITCH-1 && isFlag machine SWITCH-2 && isFlag machine SWITCH-3 && isFlag machine SWITCH-4)
 at-if5 c = rw (← at-if4 (c .before)) (⊎-elim (λ w. rw (w .0 .taken) (w .2)) (λ w. rw (w .0 .left) (w .1 ∙ w .0 .left)) (c .if4 .came))
 
 returns : tie.Need-returns

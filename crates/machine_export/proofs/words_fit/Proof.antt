@@ -18,7 +18,7 @@ shared-slice-read-if2 c = search needs
 shared-slice-read-result : tie.Need-shared-slice-read-result
 shared-slice-read-result c = search needs
 
-at-if2 : (c : tie.Joined1) → c .if1 .if2 ≡ (isWord (c .before .before .args .numbers .now) A && isWord (c .before .before .args .numbers .now) B)
+at-if2 : (c : tie.Joined1) → c .if1 .if2 ≡ (isWord (c .before .before .args .machine .now) A && isWord (c .before .before .args .machine .now) B)
 at-if2 c = ⊎-elim (λ w. rw (le-leb _ 65535 (w .0 .taken)) (w .2)) (λ w. rw (lt-leb _ 65535 (w .0 .left)) (w .1 ∙ lt-leb _ 65535 (w .0 .left))) (c .if1 .came)
 
 returns : tie.Need-returns

@@ -15,6 +15,9 @@ abbrev μ-loop : tie.MeasureT-loop
 parse-number-requires : tie.Need-parse-number-requires Inv-loop μ-loop
 parse-number-requires c κs = search needs
 
+start-clock-requires : tie.Need-start-clock-requires Inv-loop μ-loop
+start-clock-requires c κs = search needs
+
 loop-holds : tie.Need-loop-holds Inv-loop μ-loop
 loop-holds c = search needs
 
@@ -49,6 +52,7 @@ run-moments-spec =
     Inv-loop
     μ-loop
     parse-number-requires
+    start-clock-requires
     loop-holds
     parse-number-requires-2
     run-until-requires

@@ -24,6 +24,9 @@ abbrev μ-loop : tie.MeasureT-loop
 loop-holds : tie.Need-loop-holds Inv-loop μ-loop
 loop-holds c = (turns-start _ _, omega arith, omega arith, refl)
 
+start-clock-requires : tie.Need-start-clock-requires Inv-loop μ-loop
+start-clock-requires c κs = search needs
+
 run-requires : tie.Need-run-requires Inv-loop μ-loop
 run-requires c κs = search needs
 
@@ -42,7 +45,7 @@ same-length c = search needs
 returns : tie.Need-returns Inv-loop μ-loop
 returns c =
     let at-run = c .before .before .before .before .before in
-    let l = at-run .before .before .before .loop in
+    let l = at-run .before .before .before .before .loop in
     let e = turns-last _ _ _ _ _ (l .inv .0) (omega arith) (turn-reported _ _ _ _ (at-run .run .ensures)) (c .match .keys2) in
     rw e (refl, refl)
 
@@ -55,7 +58,7 @@ loop-less c = search needs
 loop-again : tie.Need-loop-again Inv-loop μ-loop
 loop-again c =
     let at-run = c .before .before .before .before .before .before in
-    let l = at-run .before .before .before .loop in (
+    let l = at-run .before .before .before .before .loop in (
       turns-onward _ _ _ _ _ (l .inv .0) (omega arith) (turn-reported _ _ _ _ (at-run .run .ensures)) (c .enum-told .given .1),
       search needs,
       omega arith,
@@ -75,6 +78,7 @@ run-turns-spec =
     Inv-loop
     μ-loop
     loop-holds
+    start-clock-requires
     run-requires
     cast-steps
     add-steps

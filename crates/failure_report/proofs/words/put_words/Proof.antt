@@ -137,6 +137,12 @@ slice-aggregate-put-text-22 c = search needs
 put-text-requires-22 : tie.Need-put-text-requires-22
 put-text-requires-22 c κs = search needs
 
+slice-aggregate-put-text-23 : tie.Need-slice-aggregate-put-text-23
+slice-aggregate-put-text-23 c = search needs
+
+put-text-requires-23 : tie.Need-put-text-requires-23
+put-text-requires-23 c κs = search needs
+
 same-length : tie.Need-same-length
 same-length c = search needs
 
@@ -288,10 +294,17 @@ same-length-22 : tie.Need-same-length-22
 same-length-22 c = search needs
 
 returns-22 : tie.Need-returns-22
-returns-22 c =
+unfolding wordsOf find
+returns-22 c = let put = c .before .before in rw (put .before .before .before .match .keys22) (put .put-text22 .ensures)
+
+same-length-23 : tie.Need-same-length-23
+same-length-23 c = search needs
+
+returns-23 : tie.Need-returns-23
+returns-23 c =
     let put = c .before .before in
     let n = put .before .before .before .match .rest in
-    no-words _ (n .0 .0 .0 .0 .0 .0 .0 .0 .0 .0 .0 .0 .0 .0 .0 .0 .0 .0 .0 .0 .1, (n .0 .0 .0 .0 .0 .0 .0 .0 .0 .0 .0 .0 .0 .0 .0 .0 .0 .0 .0 .1, (n .0 .0 .0 .0 .0 .0 .0 .0 .0 .0 .0 .0 .0 .0 .0 .0 .0 .0 .1, (n .0 .0 .0 .0 .0 .0 .0 .0 .0 .0 .0 .0 .0 .0 .0 .0 .0 .1, (n .0 .0 .0 .0 .0 .0 .0 .0 .0 .0 .0 .0 .0 .0 .0 .0 .1, (n .0 .0 .0 .0 .0 .0 .0 .0 .0 .0 .0 .0 .0 .0 .0 .1, (n .0 .0 .0 .0 .0 .0 .0 .0 .0 .0 .0 .0 .0 .0 .1, (n .0 .0 .0 .0 .0 .0 .0 .0 .0 .0 .0 .0 .0 .1, (n .0 .0 .0 .0 .0 .0 .0 .0 .0 .0 .0 .0 .1, (n .0 .0 .0 .0 .0 .0 .0 .0 .0 .0 .0 .1, (n .0 .0 .0 .0 .0 .0 .0 .0 .0 .0 .1, (n .0 .0 .0 .0 .0 .0 .0 .0 .0 .1, (n .0 .0 .0 .0 .0 .0 .0 .0 .1, (n .0 .0 .0 .0 .0 .0 .0 .1, (n .0 .0 .0 .0 .0 .0 .1, (n .0 .0 .0 .0 .0 .1, (n .0 .0 .0 .0 .1, (n .0 .0 .0 .1, (n .0 .0 .1, (n .0 .1, (n .1, tt))))))))))))))))))))) (put .put-text22 .ensures)
+    no-words _ (n .0 .0 .0 .0 .0 .0 .0 .0 .0 .0 .0 .0 .0 .0 .0 .0 .0 .0 .0 .0 .0 .1, (n .0 .0 .0 .0 .0 .0 .0 .0 .0 .0 .0 .0 .0 .0 .0 .0 .0 .0 .0 .0 .1, (n .0 .0 .0 .0 .0 .0 .0 .0 .0 .0 .0 .0 .0 .0 .0 .0 .0 .0 .0 .1, (n .0 .0 .0 .0 .0 .0 .0 .0 .0 .0 .0 .0 .0 .0 .0 .0 .0 .0 .1, (n .0 .0 .0 .0 .0 .0 .0 .0 .0 .0 .0 .0 .0 .0 .0 .0 .0 .1, (n .0 .0 .0 .0 .0 .0 .0 .0 .0 .0 .0 .0 .0 .0 .0 .0 .1, (n .0 .0 .0 .0 .0 .0 .0 .0 .0 .0 .0 .0 .0 .0 .0 .1, (n .0 .0 .0 .0 .0 .0 .0 .0 .0 .0 .0 .0 .0 .0 .1, (n .0 .0 .0 .0 .0 .0 .0 .0 .0 .0 .0 .0 .0 .1, (n .0 .0 .0 .0 .0 .0 .0 .0 .0 .0 .0 .0 .1, (n .0 .0 .0 .0 .0 .0 .0 .0 .0 .0 .0 .1, (n .0 .0 .0 .0 .0 .0 .0 .0 .0 .0 .1, (n .0 .0 .0 .0 .0 .0 .0 .0 .0 .1, (n .0 .0 .0 .0 .0 .0 .0 .0 .1, (n .0 .0 .0 .0 .0 .0 .0 .1, (n .0 .0 .0 .0 .0 .0 .1, (n .0 .0 .0 .0 .0 .1, (n .0 .0 .0 .0 .1, (n .0 .0 .0 .1, (n .0 .0 .1, (n .0 .1, (n .1, tt)))))))))))))))))))))) (put .put-text23 .ensures)
 
 pub put-words-spec : {M : Type 1} → statement M
 put-words-spec =
@@ -341,6 +354,8 @@ put-words-spec =
     put-text-requires-21
     slice-aggregate-put-text-22
     put-text-requires-22
+    slice-aggregate-put-text-23
+    put-text-requires-23
     same-length
     returns
     same-length-2
@@ -384,4 +399,6 @@ put-words-spec =
     same-length-21
     returns-21
     same-length-22
-    returns-22)
+    returns-22
+    same-length-23
+    returns-23)

@@ -12,10 +12,10 @@ slice-write-image : tie.Need-slice-write-image
 slice-write-image c = search needs
 
 slice-write-image-2 : tie.Need-slice-write-image-2
-slice-write-image-2 c = search needs
+slice-write-image-2 c = simp length-set (omega arith)
 
 slice-write-image-3 : tie.Need-slice-write-image-3
-slice-write-image-3 c = search needs
+slice-write-image-3 c = simp length-set (omega arith)
 
 slice-write-image-4 : tie.Need-slice-write-image-4
 slice-write-image-4 c = simp length-set (omega arith)

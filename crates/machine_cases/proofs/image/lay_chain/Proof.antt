@@ -7,7 +7,7 @@ use Rattle.machine_cases.proofs.image.lay_chain.Statement.{statement}
 use Rattle.machine_cases.proofs.image.lay_chain.Tie as tie
 
 abbrev Inv-loop : tie.InvT-loop
-Inv-loop image₀ i₀ image i = (i ≤ 144) × (length image ≡ 16385)
+Inv-loop image₀ i₀ image i = (i ≤ 144) × (16384 ≤ length image) × (length image ≡ length image₀)
 
 abbrev μ-loop : tie.MeasureT-loop
 μ-loop image₀ i₀ image i = 144 - i
