@@ -12,7 +12,8 @@ moment and goes on, so that `run` also says that pieces of a run make one run.
 That the meaning's steps fit the run is checked here, for each case:
 - the moments begin at 0 and never fall, and the end does not come before the last one;
 - `ends N`: the last moment is N, and the run halts, the HLT being its step N + 1, with budget to spare;
-- `breaks N`: the budget is N; `goes on`: N stands for the budget; in both the run makes N steps and is spent.
+- `breaks N` in a source with `.CHECKED`: the run halts at a test's HLT, with 4 to 6 steps more, with budget to spare;
+- `breaks N` in any other: the budget is N; `goes on`: N stands for the budget; in both the run makes N steps and is spent.
 """
 import pathlib
 import sys
@@ -24,7 +25,7 @@ def octal(fields):
     return [int(field, 8) for field in fields]
 
 
-def fits(moments, how, run):
+def fits(checked, moments, how, run):
     """Whether the steps of the meaning fit the line of the run."""
     budget, outcome, number, steps = int(run[0]), run[1], int(run[2]), int(run[3])
     end = budget if how == ["goes", "on"] else int(how[1])
@@ -32,6 +33,8 @@ def fits(moments, how, run):
         return False
     if how[0] == "ends":
         return moments[-1] == end and outcome == "halted" and steps == end + 1 < budget
+    if how[0] == "breaks" and checked:
+        return outcome == "halted" and 4 <= steps - end <= 6 and steps < budget
     return outcome == "spent" and steps == end == budget
 
 
@@ -56,7 +59,7 @@ def main(vectors):
         elif kind in ("ends", "breaks", "goes"):
             how = [kind, *fields]
         elif kind == "run":
-            if not fits(moments, how, fields):
+            if not fits(b".CHECKED" in source, moments, how, fields):
                 sys.exit(f"case {count}: the run does not fit the meaning's steps")
             start.append(int(fields[0]))
             write.append(line)

@@ -132,6 +132,42 @@ pool-order : wordsOf ".BEGIN .ARRAY S[1]; S[-1]=5 .END" ≡ (0o1000, 0o077777 �
 unfolding computed
 pool-order = refl
 
+-- ---- Subscripts that are tested (W19)
+
+-- LDX I, the test, LDA*; LDX -2, the test, STA*: one word in the pool for -1 and one for -2, which is -size too (A7). The HLT of each test is a word 0
+tested :
+    wordsOf ".BEGIN .CHECKED; .INTEGER I; .ARRAY T[2]; T[-2] = T[I] .END"
+    ≡ (
+      0o1000,
+      0 ∷ 0o077777 ∷ [],
+      0o072200 ∷ 0o010002 ∷ 0o004000 ∷ 0o023031 ∷ 0o000000 ∷ 0o101000 ∷ 0o023032 ∷ 0o101000 ∷ 0o100000 ∷ 0o000000 ∷ 0o004002 ∷ 0o104201 ∷
+          0o073032 ∷ 0o010002 ∷ 0o004000 ∷ 0o023031 ∷ 0o000000 ∷ 0o101000 ∷ 0o023032 ∷ 0o101000 ∷ 0o100000 ∷ 0o000000 ∷ 0o004002 ∷ 0o110201 ∷
+          0o000000 ∷ 0o177777 ∷ 0o177776 ∷ [],
+    )
+unfolding computed
+tested = refl
+
+-- in a procedure, for `#` in the place of the LDX, and ahead of LRS and `DIV*`; its pool is its sector's
+tested-procedure :
+    part 0o1000 17 (compileDef (bytes ".BEGIN .CHECKED; .ARRAY T[3]; .PROCEDURE P; .BEGIN @ = @ / T[#] .END; .NEXTSECTOR; P .END"))
+    ≡ 0 ∷ 0o010002 ∷ 0o004000 ∷ 0o023016 ∷ 0o000000 ∷ 0o101000 ∷ 0o023017 ∷ 0o101000 ∷ 0o100000 ∷ 0o000000 ∷ 0o004002 ∷ 0o040161 ∷ 0o136200 ∷ 0o103000 ∷
+    0o177777 ∷ 0o177775 ∷ 0 ∷ []
+unfolding computed
+tested-procedure = refl
+
+-- where there is no subscript `.CHECKED` lays nothing; a subscript without it lays what it did
+untested :
+    map wordsOf (".BEGIN .CHECKED; .INTEGER A; A = 1 .END" ∷ ".BEGIN .INTEGER A; A = 1 .END" ∷ ".BEGIN .ARRAY T[2]; @ = T[#] .END" ∷ [])
+    ≡ (0o1000, 0 ∷ [], 0o005003 ∷ 0o010200 ∷ 0 ∷ 1 ∷ []) ∷ (0o1000, 0 ∷ [], 0o005003 ∷ 0o010200 ∷ 0 ∷ 1 ∷ []) ∷ (0o1000, 0o077777 ∷ [], 0o104200 ∷ 0 ∷ []) ∷ []
+unfolding computed
+untested = refl
+
+-- the words of a test count: 46 elements are 506 words, with HLT and the pool 508; one more is 12, at the `.END`
+too-many-tests :
+    map (λ n. counts (compileDef (bytes ".BEGIN .CHECKED; .ARRAY T[1]; @ = T[#]" ++ (times n "+T[#]" ++ bytes " .END")))) (45 ∷ 46 ∷ []) ≡ (0o1000, 508) ∷ (12, 269) ∷ []
+unfolding computed
+too-many-tests = refl
+
 -- ---- Conditions
 
 abbrev compared : String → List ℕ
@@ -246,7 +282,7 @@ refusal (Got.failed n at) = n
 global-words :
     refusal (parseGlobal (bytes "B") ItemKeyword.integer (integers 383) 0) ∷ refusal (parseGlobal (bytes "B") ItemKeyword.integer (integers 384) 0) ∷
     refusal (parseGlobal (bytes "B=1") ItemKeyword.constant (integers 384) 0) ∷ refusal (parseGlobal (bytes "B=1") ItemKeyword.compconstant (integers 384) 0) ∷
-    refusal (parseArray (bytes "B[1]") (integers 384) 0) ∷ refusal (parseProcedure (bytes "B; .BEGIN .END;") (integers 384) false 0) ∷
+    refusal (parseArray (bytes "B[1]") false (integers 384) 0) ∷ refusal (parseProcedure (bytes "B; .BEGIN .END;") (integers 384) false 0) ∷
     refusal (parseProcedure (bytes "B; .BEGIN .INTEGER C, D; .END;") (integers 383) false 0) ∷ refusal (parseGlobal (bytes "A") ItemKeyword.integer (integers 384) 0) ∷ []
     ≡ 0 ∷ 11 ∷ 11 ∷ 0 ∷ 11 ∷ 11 ∷ 0 ∷ 8 ∷ []
 unfolding computed

@@ -55,7 +55,9 @@ fewer h a = record {
   observed = λ f τ o t d. a .observed f τ o t (h t d);
   broken = λ f τ b t d. a .broken f τ b t (h t d);
   until-broken = λ f τ b t d. a .until-broken f τ b t (h t d);
-  ends = λ whole t d. a .ends whole t (h t d);
+  halts = λ f τ e t d. a .halts f τ e t (h t d);
+  stops = λ c f τ b t d. a .stops c f τ b t (h t d);
+  ends = λ inside t d. a .ends inside t (h t d);
 }
 
 -- ---- An accepted source

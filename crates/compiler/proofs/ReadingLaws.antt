@@ -1,6 +1,7 @@
 -- What the two readings come to: the definition's result.
 use Prim.Native.Nat.{ℕ, _≤_, _<_}
 use mathlib.Core.Path.{_≡_, refl, sym, ap, _∙_, fun-ext}
+use mathlib.Core.Bool.{Bool}
 use mathlib.Core.List.{List, [], _∷_, _++_}
 use native.Mathlib.Omega.{arith}
 use borrow.Author.Tests.{le-leb, lt-leb, eq-eqb, ne-eqb}
@@ -88,7 +89,7 @@ module _ (source : List ℕ) (short : length source ≤ 8192) where
     unfolding resultOf
     accepted = result ∙ ap resultOf is
 
-    module _ (r : ProgramAnswer) {plan : SectorEnds} {image table image' : List ℕ} (c : ProgramEmitted plan image (r .allocation) (r .end) table image' p) where
+    module _ (r : ProgramAnswer) {plan : SectorEnds} {image table image' : List ℕ} (c : ProgramEmitted plan image (r .checked) (r .allocation) (r .end) table image' p) where
       counted : countedOf r ≡ answerOf (compileDef source)
       unfolding answerOf compiled declared finished
       counted =
@@ -103,16 +104,16 @@ module _ (source : List ℕ) (short : length source ≤ 8192) where
           ap (λ e. endOf e k) l ∙ each-end (c .sound .closed) (r .end .next) k ∙ ap (λ x. getD (x ++ (r .end .next ∷ [])) k 0) (ap (λ st. st .ends) (c .allocation))
           ∙ ap (λ x. getD (layout.allocated (p .declarations) .ends ++ (x ∷ [])) k 0) (c .next) ∙ sym (pool-ends p k)
 
-      laid : {plan' : SectorEnds} {s' : Allocation} {end' : Output} {table' cleared laid' : List ℕ} {kept : Type 0} {part' : Part} (image₀ : List ℕ) → plan' ≡ withEnd (r .allocation .sectors) (r .end .next)
-          → cleared ≡ replicate 16384 0 → Reads (ProgramEmitted plan' cleared s' end' table' laid') kept part' (programIn source) → laid' ≡ imageAfter (compileDef source) image₀
+      laid : {plan' : SectorEnds} {flag' : Bool} {s' : Allocation} {end' : Output} {table' cleared laid' : List ℕ} {kept : Type 0} {part' : Part} (image₀ : List ℕ) → plan' ≡ withEnd (r .allocation .sectors) (r .end .next)
+          → cleared ≡ replicate 16384 0 → Reads (ProgramEmitted plan' cleared flag' s' end' table' laid') kept part' (programIn source) → laid' ≡ imageAfter (compileDef source) image₀
       unfolding imageAfter compiled EmittedImage
       laid {cleared = cleared} image₀ l z second =
           again p n is second .laid ∙ ap (λ (f : ℕ → ℕ). emitProgram f p cleared) (fun-ext (ends l)) ∙ ap (λ (i : List ℕ). emitProgram (λ k. planOf p k .poolAt) p i) z
           ∙ emitted-image source p n (same ∙ is) ∙ sym (ap (λ e. imageAfter e image₀) accepted)
 
-  pub accepted-reading : (r : ProgramAnswer) {plan plan' : SectorEnds} {image table image' table' cleared laid' : List ℕ} {s' : Allocation} {end' : Output} {kept kept' : Type 0} {part' : Part} {answer : Answer} {n : ℕ}
-      (image₀ table₀ table₁ : List ℕ) → tableWords ≤ length table₀ → Reads (ProgramEmitted plan image (r .allocation) (r .end) table image') kept (r .part) (programOn source table₀) → answer ≡ answeredOf r → r .part ≡ Part.Read n
-      → plan' ≡ withEnd (r .allocation .sectors) (r .end .next) → cleared ≡ replicate 16384 0 → Reads (ProgramEmitted plan' cleared s' end' table' laid') kept' part' (programOn source table₁) → tableWords ≤ length table₁
+  pub accepted-reading : (r : ProgramAnswer) {plan plan' : SectorEnds} {image table image' table' cleared laid' : List ℕ} {flag' : Bool} {s' : Allocation} {end' : Output} {kept kept' : Type 0} {part' : Part} {answer : Answer} {n : ℕ}
+      (image₀ table₀ table₁ : List ℕ) → tableWords ≤ length table₀ → Reads (ProgramEmitted plan image (r .checked) (r .allocation) (r .end) table image') kept (r .part) (programOn source table₀) → answer ≡ answeredOf r → r .part ≡ Part.Read n
+      → plan' ≡ withEnd (r .allocation .sectors) (r .end .next) → cleared ≡ replicate 16384 0 → Reads (ProgramEmitted plan' cleared flag' s' end' table' laid') kept' part' (programOn source table₁) → tableWords ≤ length table₁
       → Answers (compileDef source) image₀ answer laid'
   accepted-reading r {n = n} image₀ table₀ table₁ room first e q l z second room' =
       let one = came (reads-on (sym (on-table source table₀ room)) first) q in

@@ -31,11 +31,11 @@ pub record Accepted (source image : List ℕ) (entry words globals : ℕ) : Type
   -- the program that the source is, by the definition; its image, entry and counts are those that the call gave (demand 2a, 3a)
   pub program : Program
   pub defined : compileDef source ≡ Result.accepted (delivered program image entry words globals)
-  -- of every machine that is loaded with it, the statement about every list of calls (demand 3a to 3j)
+  -- of every machine that is loaded with it, the statement about every list of calls (demand 3a to 3j and 3l)
   pub agrees : (σ : State) (s : machine.State) → Loaded (delivered program image entry words globals) σ s → Agrees program σ (Calls s)
   -- every list of turns is such a list of calls, with what its runs come to (demand 3e),
   pub called : (vs : List Turn) (s : machine.State) → Calls s (runsDef vs s)
-  -- and such machines exist: the image itself is such a memory, and so it is with any values for the variables (demand 3k)
+  -- and such machines exist: the image itself is such a memory, and so it is with any values for the variables, and for word 2 with `.CHECKED` (demand 3k)
   pub loads : Loads (delivered program image entry words globals)
 
 -- DEMAND 3 of every call of `compile` that accepts (demand 3a)

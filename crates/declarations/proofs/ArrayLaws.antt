@@ -192,37 +192,37 @@ module _ (source : List ℕ) (names : Names) (size at : ℕ) {t : Token} (e : t 
 
 -- ---- An array
 
-module _ (source : List ℕ) (st : layout.Allocation) (at : ℕ) where
-  pub array-head : {k a : ℕ} → arrayHead source st at ≡ failed k a → oneArray source st at ≡ failed k a
+module _ (source : List ℕ) (checked : Bool) (st : layout.Allocation) (at : ℕ) where
+  pub array-head : {k a : ℕ} → arrayHead source st at ≡ failed k a → oneArray source checked st at ≡ failed k a
   unfolding oneArray
   array-head e = then-failed _ e
 
   module _ {name : Name} {size n : ℕ} (e : arrayHead source st at ≡ got (name, size) n) where
-    pub array-values : {k a : ℕ} → parseInitials source (st .scope .names) size n ≡ failed k a → oneArray source st at ≡ failed k a
+    pub array-values : {k a : ℕ} → parseInitials source (st .scope .names) size n ≡ failed k a → oneArray source checked st at ≡ failed k a
     unfolding oneArray
     array-values h = then-got _ e ∙ then-failed _ h
 
-    pub array-on : {values : List ℕ} {m : ℕ} → parseInitials source (st .scope .names) size n ≡ got values m → oneArray source st at ≡ got (Declaration.array name size values) m
+    pub array-on : {values : List ℕ} {m : ℕ} → parseInitials source (st .scope .names) size n ≡ got values m → oneArray source checked st at ≡ got (Declaration.array name size checked values) m
     unfolding oneArray
     array-on h = then-got _ e ∙ then-got _ h
 
 -- an array after those that are done
-pub array-next : (source : List ℕ) (at : ℕ) {s s' s'' : Allocation} {t t' t'' i i' i'' : List ℕ} {done : List Declaration} {part : Part} → DeclaredAnyPlan s t i s' t' i' done
-    → Declares (λ d. DeclaredAnyPlan s' t' i' s'' t'' i'' (d ∷ [])) part (oneArray source (allocationOf s' t') at) → Declares (DeclaredAnyPlan s t i s'' t'' i'') part (arrayIn source (allocationOf s t) done at)
+pub array-next : (source : List ℕ) (checked : Bool) (at : ℕ) {s s' s'' : Allocation} {t t' t'' i i' i'' : List ℕ} {done : List Declaration} {part : Part} → DeclaredAnyPlan s t i s' t' i' done
+    → Declares (λ d. DeclaredAnyPlan s' t' i' s'' t'' i'' (d ∷ [])) part (oneArray source checked (allocationOf s' t') at) → Declares (DeclaredAnyPlan s t i s'' t'' i'') part (arrayIn source checked (allocationOf s t) done at)
 unfolding arrayIn
-array-next source at {done = done} p r =
-    reads-as (snoc done) r refl (ap (λ z. andThen (oneArray source z at) (λ d n. got (snoc done d) n)) (sym (p (λ _. 0) .allocation))) (λ d h ends. more-declared (p ends) (h ends)) (λ w. w)
+array-next source checked at {done = done} p r =
+    reads-as (snoc done) r refl (ap (λ z. andThen (oneArray source checked z at) (λ d n. got (snoc done d) n)) (sym (p (λ _. 0) .allocation))) (λ d h ends. more-declared (p ends) (h ends)) (λ w. w)
 
 -- declared
-module _ (s : Allocation) (t u image between after : List ℕ) (name : Packed) (size : ℕ) (values : List ℕ) where
+module _ (s : Allocation) (t u image between after : List ℕ) (name : Packed) (size : ℕ) (checked : Bool) (values : List ℕ) where
   pub array-declared : SoundAllocation s → 3584 ≤ length t → Roomy (allocationOf s t) size → length (tables.liveNames (s .names) t) ≡ s .names → length u ≡ length t
-      → tables.Entered (s .names) t name 0 (Symbol.array (record { number = s .taken; size = size })) u → between ≡ set image (0o200 + s .taken) (0o40000 + s .array)
+      → tables.Entered (s .names) t name 0 (Symbol.array (record { number = s .taken; size = size; checked = checked })) u → between ≡ set image (0o200 + s .taken) (0o40000 + s .array)
       → after ≡ stored between (s .array - size) (padded size values)
-      → DeclaredAnyPlan s t image (withGlobal s (s .output) (s .array - size)) u after (Declaration.array (unpack name) size values ∷ [])
+      → DeclaredAnyPlan s t image (withGlobal s (s .output) (s .array - size)) u after (Declaration.array (unpack name) size checked values ∷ [])
   unfolding emitDeclarations emitDeclaration layout.allocate declare wordsTaken tables.levelOf tables.atLevel tables.entryOf
   array-declared h long room held same d e i =
       let few = room .names in
-      let names = held-more (s .names) t u name 0 (Symbol.array (record { number = s .taken; size = size })) (omega arith) same d in
+      let names = held-more (s .names) t u name 0 (Symbol.array (record { number = s .taken; size = size; checked = checked })) (omega arith) same d in
       λ _. record {
         allocation = ap (λ x. record { scope = record { names = x; level = Level.outer; taken = s .taken + 1 }; next = s .output .next; pool = poolOf s; ends = endsOf (s .sectors); array = s .array - size }) names;
         sound = record { few = omega arith; each = omega (arith, h .each); closed = h .closed; used = h .used; fits = h .fits; top = omega (arith, h .top) };

@@ -86,31 +86,32 @@ module _ (source : List ℕ) (ds : List Declaration) where
 
   -- ---- Arrays
 
-  array-def : (es : List Declaration) (at : ℕ) → parseArray source es at ≡ andThen (oneArray source (allocated es) at) (λ d n. got (snoc es d) n)
-  unfolding parseArray oneArray arrayHead andThen
-  array-def es at =
-      let st = allocated es in
-      let rest : Name × ℕ → ℕ → Got Declaration = λ head n. andThen (parseInitials source (st .scope .names) (head .1) n) (λ values next. got (Declaration.array (head .0) (head .1) values) next) in
-      let last : Declaration → ℕ → Got (List Declaration) = λ d n. got (snoc es d) n in
-      let tail : Name × ℕ → ℕ → Got (List Declaration) = λ head n. andThen (rest head n) last in
-      into (newName source (st .scope) (nameLimit (st .scope)) (tokenAt source at)) _ tail _ (λ name n.
-      into (expect Kinds.leftBracket source n) _ tail _ (λ _ m.
-      into (parseInRange source (st .scope .names) (λ v. leb (sizeOf v) 8192) m) _ tail _ (λ v k.
-      into (expect Kinds.rightBracket source k) _ tail _ (λ closing l.
-      within-into (spaceLimit st (sizeOf v)) closing (got (name, sizeOf v) l) _ tail
-      (into (parseInitials source (st .scope .names) (sizeOf v) l) (λ values next. got (Declaration.array name (sizeOf v) values) next) last _ (λ values next. refl))))))
-      ∙ into (arrayHead source st at) rest last tail (λ head n. refl)
+  module _ (checked : Bool) where
+    array-def : (es : List Declaration) (at : ℕ) → parseArray source checked es at ≡ andThen (oneArray source checked (allocated es) at) (λ d n. got (snoc es d) n)
+    unfolding parseArray oneArray arrayHead andThen
+    array-def es at =
+        let st = allocated es in
+        let rest : Name × ℕ → ℕ → Got Declaration = λ head n. andThen (parseInitials source (st .scope .names) (head .1) n) (λ values next. got (Declaration.array (head .0) (head .1) checked values) next) in
+        let last : Declaration → ℕ → Got (List Declaration) = λ d n. got (snoc es d) n in
+        let tail : Name × ℕ → ℕ → Got (List Declaration) = λ head n. andThen (rest head n) last in
+        into (newName source (st .scope) (nameLimit (st .scope)) (tokenAt source at)) _ tail _ (λ name n.
+        into (expect Kinds.leftBracket source n) _ tail _ (λ _ m.
+        into (parseInRange source (st .scope .names) (λ v. leb (sizeOf v) 8192) m) _ tail _ (λ v k.
+        into (expect Kinds.rightBracket source k) _ tail _ (λ closing l.
+        within-into (spaceLimit st (sizeOf v)) closing (got (name, sizeOf v) l) _ tail
+        (into (parseInitials source (st .scope .names) (sizeOf v) l) (λ values next. got (Declaration.array name (sizeOf v) checked values) next) last _ (λ values next. refl))))))
+        ∙ into (arrayHead source st at) rest last tail (λ head n. refl)
 
-  array-one : (a : List Declaration) (n : ℕ) → parseArray source (ds ++ a) n ≡ mapped (λ x. ds ++ x) (arrayIn source (allocated ds) a n)
-  unfolding arrayIn andThen
-  array-one a n =
-      array-def (ds ++ a) n
-      ∙ ap (λ st. andThen (oneArray source st n) (λ d next. got (snoc (ds ++ a) d) next)) (sym (after-more ds a))
-      ∙ then-mapped (λ x. ds ++ x) (oneArray source (foldl allocate (allocated ds) a) n) (λ d next. got (snoc a d) next) (λ d next. got (snoc (ds ++ a) d) next) (λ d m. ap (λ l. got l m) (append-assoc ds a (d ∷ [])))
+    array-one : (a : List Declaration) (n : ℕ) → parseArray source checked (ds ++ a) n ≡ mapped (λ x. ds ++ x) (arrayIn source checked (allocated ds) a n)
+    unfolding arrayIn andThen
+    array-one a n =
+        array-def (ds ++ a) n
+        ∙ ap (λ st. andThen (oneArray source checked st n) (λ d next. got (snoc (ds ++ a) d) next)) (sym (after-more ds a))
+        ∙ then-mapped (λ x. ds ++ x) (oneArray source checked (foldl allocate (allocated ds) a) n) (λ d next. got (snoc a d) next) (λ d next. got (snoc (ds ++ a) d) next) (λ d m. ap (λ l. got l m) (append-assoc ds a (d ∷ [])))
 
-  pub array-list : (at : ℕ) → parseList source (parseArray source) ds at ≡ mapped (λ new. ds ++ new) (arraysIn source (allocated ds) at)
-  unfolding arraysIn
-  array-list at = ap (λ d. parseList source (parseArray source) d at) (sym (append-nil ds)) ∙ map-list (λ x. ds ++ x) source (arrayIn source (allocated ds)) (parseArray source) array-one [] at
+    pub array-list : (at : ℕ) → parseList source (parseArray source checked) ds at ≡ mapped (λ new. ds ++ new) (arraysIn source checked (allocated ds) at)
+    unfolding arraysIn
+    array-list at = ap (λ d. parseList source (parseArray source checked) d at) (sym (append-nil ds)) ∙ map-list (λ x. ds ++ x) source (arrayIn source checked (allocated ds)) (parseArray source checked) array-one [] at
 
   -- ---- Judged
 
@@ -186,16 +187,16 @@ seven {C} k h a b c d e f g = go (eqb k 24) (eqb k 25) (eqb k 26) (eqb k 27) (eq
     go false false false false false true p q r s t u = f (eqb-true k 29 u)
     go false false false false false false p q r s t u = g (last (eqb-false k 24 p) (eqb-false k 25 q) (eqb-false k 26 r) (eqb-false k 27 s) (eqb-false k 28 t) (eqb-false k 29 u))
 
-abbrev pub declarationMore : List ℕ → List Declaration → ℕ → Option (Got (List Declaration))
-declarationMore source ds n = let t = tokenAt source n in asOneOf (declarationKeywords source) t (λ parse. some (parse ds t)) (λ _. none)
+abbrev pub declarationMore : List ℕ → Bool → List Declaration → ℕ → Option (Got (List Declaration))
+declarationMore source checked ds n = let t = tokenAt source n in asOneOf (declarationKeywords source checked) t (λ parse. some (parse ds t)) (λ _. none)
 
-pub declarations-first : (source : List ℕ) (at : ℕ) {held : List Declaration → Type 0} → held [] → Turning (declarationMore source) (parseDeclarations source at) held at (length source)
+pub declarations-first : (source : List ℕ) (checked : Bool) (at : ℕ) {held : List Declaration → Type 0} → held [] → Turning (declarationMore source checked) (parseDeclarations source checked at) held at (length source)
 unfolding parseDeclarations repeat
-declarations-first source at h = record { done = []; holds = h; same = refl }
+declarations-first source checked at h = record { done = []; holds = h; same = refl }
 
-token-none : (source : List ℕ) (ds : List Declaration) (t : Token) → begins (t .kind) ≡ false → asOneOf (declarationKeywords source) t (λ parse. some (parse ds t)) (λ _. none) ≡ none
+token-none : (source : List ℕ) (checked : Bool) (ds : List Declaration) (t : Token) → begins (t .kind) ≡ false → asOneOf (declarationKeywords source checked) t (λ parse. some (parse ds t)) (λ _. none) ≡ none
 unfolding find
-token-none source ds t h =
+token-none source checked ds t h =
     let o = outside (t .kind) in
     rw (
       ne-eqb _ 24 (o 24 h (omega arith) (omega arith)),
@@ -207,9 +208,9 @@ token-none source ds t h =
       ne-eqb _ 30 (o 30 h (omega arith) (omega arith)),
     )
 
-module _ (source : List ℕ) (ds : List Declaration) (t : Token) where
+module _ (source : List ℕ) (checked : Bool) (ds : List Declaration) (t : Token) where
   abbrev Some : Type 0
-  Some = asOneOf (declarationKeywords source) t (λ parse. some (parse ds t)) (λ _. none) ≡ some (mapped (λ new. ds ++ new) (declarationIn source (allocated ds) t))
+  Some = asOneOf (declarationKeywords source checked) t (λ parse. some (parse ds t)) (λ _. none) ≡ some (mapped (λ new. ds ++ new) (declarationIn source checked (allocated ds) t))
 
   some-integer : t .kind ≡ 24 → Some
   unfolding find declarationIn
@@ -225,7 +226,7 @@ module _ (source : List ℕ) (ds : List Declaration) (t : Token) where
 
   some-array : t .kind ≡ 27 → Some
   unfolding find declarationIn
-  some-array e = rw e (ap some (array-list source ds (t .next)))
+  some-array e = rw e (ap some (array-list source ds checked (t .next)))
 
   some-sector : t .kind ≡ 28 → Some
   unfolding find declarationIn
@@ -250,49 +251,49 @@ module _ (source : List ℕ) (ds : List Declaration) (t : Token) where
   token-some : begins (t .kind) ≡ true → Some
   token-some h = seven (t .kind) h some-integer some-constant some-compconstant some-array some-sector some-procedure some-accumulator
 
-module _ (source : List ℕ) (ds : List Declaration) (at : ℕ) {t : Token} (e : t ≡ tokenAt source at) where
-  pub declaration-none : begins (t .kind) ≡ false → declarationMore source ds at ≡ none
-  declaration-none h = rw (← e) (token-none source ds t h)
+module _ (source : List ℕ) (checked : Bool) (ds : List Declaration) (at : ℕ) {t : Token} (e : t ≡ tokenAt source at) where
+  pub declaration-none : begins (t .kind) ≡ false → declarationMore source checked ds at ≡ none
+  declaration-none h = rw (← e) (token-none source checked ds t h)
 
-  pub declaration-some : begins (t .kind) ≡ true → declarationMore source ds at ≡ some (mapped (λ new. ds ++ new) (declarationIn source (allocated ds) t))
-  declaration-some h = rw (← e) (token-some source ds t h)
+  pub declaration-some : begins (t .kind) ≡ true → declarationMore source checked ds at ≡ some (mapped (λ new. ds ++ new) (declarationIn source checked (allocated ds) t))
+  declaration-some h = rw (← e) (token-some source checked ds t h)
 
 -- with the allocation that the code has
-pub declaration-next : (source : List ℕ) (u : Token) {ends : ℕ → ℕ} {s s' s'' : code.Allocation} {t t' t'' i i' i'' : List ℕ} {done : List Declaration} {part : Part} → allocationOf s t ≡ start → Declared ends s t i s' t' i' done
-    → Declares (Declared ends s' t' i' s'' t'' i'') part (declarationIn source (allocationOf s' t') u) → Declares (Declared ends s t i s'' t'' i'') part (mapped (λ new. done ++ new) (declarationIn source (allocated done) u))
+pub declaration-next : (source : List ℕ) (checked : Bool) (u : Token) {ends : ℕ → ℕ} {s s' s'' : code.Allocation} {t t' t'' i i' i'' : List ℕ} {done : List Declaration} {part : Part} → allocationOf s t ≡ start → Declared ends s t i s' t' i' done
+    → Declares (Declared ends s' t' i' s'' t'' i'') part (declarationIn source checked (allocationOf s' t') u) → Declares (Declared ends s t i s'' t'' i'') part (mapped (λ new. done ++ new) (declarationIn source checked (allocated done) u))
 unfolding allocated
-declaration-next source u {done = done} e p r =
-    reads-as (λ new. done ++ new) r refl (ap (λ st. mapped (λ new. done ++ new) (declarationIn source st u)) (sym (p .allocation ∙ ap (λ x. foldl allocate x done) e))) (λ new d. more-declared p d) (λ w. w)
+declaration-next source checked u {done = done} e p r =
+    reads-as (λ new. done ++ new) r refl (ap (λ st. mapped (λ new. done ++ new) (declarationIn source checked st u)) (sym (p .allocation ∙ ap (λ x. foldl allocate x done) e))) (λ new d. more-declared p d) (λ w. w)
 
 -- ---- The forms, by the token
 
-module _ (source : List ℕ) (st : Allocation) (t : Token) where
-  pub in-array : t .kind ≡ Kinds.ARRAY → declarationIn source st t ≡ arraysIn source st (t .next)
+module _ (source : List ℕ) (checked : Bool) (st : Allocation) (t : Token) where
+  pub in-array : t .kind ≡ Kinds.ARRAY → declarationIn source checked st t ≡ arraysIn source checked st (t .next)
   unfolding declarationIn
   in-array e = rw e
 
-  pub in-sector : t .kind ≡ Kinds.NEXTSECTOR → declarationIn source st t ≡ limitedIn source st Declaration.nextSector t
+  pub in-sector : t .kind ≡ Kinds.NEXTSECTOR → declarationIn source checked st t ≡ limitedIn source st Declaration.nextSector t
   unfolding declarationIn
   in-sector e = rw e
 
-  pub in-procedure : t .kind ≡ Kinds.PROCEDURE → declarationIn source st t ≡ procedureIn source st false (t .next)
+  pub in-procedure : t .kind ≡ Kinds.PROCEDURE → declarationIn source checked st t ≡ procedureIn source st false (t .next)
   unfolding declarationIn
   in-procedure e = rw e
 
-  pub in-items : (word : ItemKeyword) → some word ≡ keywordOf (t .kind) → declarationIn source st t ≡ itemsIn source word st (t .next)
+  pub in-items : (word : ItemKeyword) → some word ≡ keywordOf (t .kind) → declarationIn source checked st t ≡ itemsIn source word st (t .next)
   unfolding declarationIn keywordOf find
   in-items word h = go (eqb (t .kind) 24) (eqb (t .kind) 25) (eqb (t .kind) 26) refl refl refl
     where
       known : (k : ℕ) (w : ItemKeyword) → t .kind ≡ k → some w ≡ keywordOf k → word ≡ w
       known k w e i = let q : some word ≡ some w = h ∙ ap keywordOf e ∙ sym i in cc
 
-      go : (a b d : Bool) → eqb (t .kind) 24 ≡ a → eqb (t .kind) 25 ≡ b → eqb (t .kind) 26 ≡ d → declarationIn source st t ≡ itemsIn source word st (t .next)
+      go : (a b d : Bool) → eqb (t .kind) 24 ≡ a → eqb (t .kind) 25 ≡ b → eqb (t .kind) 26 ≡ d → declarationIn source checked st t ≡ itemsIn source word st (t .next)
       go true b d p q r = let e = eqb-true (t .kind) 24 p in rw (e, known 24 ItemKeyword.integer e refl)
       go false true d p q r = let e = eqb-true (t .kind) 25 q in rw (e, known 25 ItemKeyword.constant e refl)
       go false false true p q r = let e = eqb-true (t .kind) 26 r in rw (e, known 26 ItemKeyword.compconstant e refl)
       go false false false p q r = absurd (let w : keywordOf (t .kind) ≡ none = sym (keyword-none {kind = t .kind} (eqb-false (t .kind) 24 p) (eqb-false (t .kind) 25 q) (eqb-false (t .kind) 26 r)) in let i = h ∙ w in let z : _≡_ {A = ℕ} 0 1 = cc in omega arith)
 
-  pub in-accumulator : none ≡ keywordOf (t .kind) → (t .kind ≡ Kinds.ARRAY → ⊥) → (t .kind ≡ Kinds.NEXTSECTOR → ⊥) → (t .kind ≡ Kinds.PROCEDURE → ⊥) → declarationIn source st t ≡ accumulatorIn source st (t .next)
+  pub in-accumulator : none ≡ keywordOf (t .kind) → (t .kind ≡ Kinds.ARRAY → ⊥) → (t .kind ≡ Kinds.NEXTSECTOR → ⊥) → (t .kind ≡ Kinds.PROCEDURE → ⊥) → declarationIn source checked st t ≡ accumulatorIn source st (t .next)
   unfolding declarationIn keywordOf find
   in-accumulator h a b d =
       rw (ne-eqb (t .kind) 24 (no ItemKeyword.integer 24 refl), ne-eqb (t .kind) 25 (no ItemKeyword.constant 25 refl), ne-eqb (t .kind) 26 (no ItemKeyword.compconstant 26 refl), ne-eqb (t .kind) 27 a, ne-eqb (t .kind) 28 b, ne-eqb (t .kind) 29 d)
@@ -311,10 +312,10 @@ expect-next {B} kind source at f = go (is kind (tokenAt source at))
     go true = refl
     go false = refl
 
-pub main-def : (source : List ℕ) (ds : List Declaration) (at : ℕ) → parseMain source ds at ≡ andThen (mainIn source (allocated ds) at) (λ main n. got (record { declarations = ds; main = main }) n)
+pub main-def : (source : List ℕ) (checked : Bool) (ds : List Declaration) (at : ℕ) → parseMain source checked ds at ≡ andThen (mainIn source (allocated ds) at) (λ main n. got (record { checked = checked; declarations = ds; main = main }) n)
 unfolding parseMain mainIn andThen
-main-def source ds at =
-    let done : Stmts → ℕ → Got Program = λ main n. got (record { declarations = ds; main = main }) n in
+main-def source checked ds at =
+    let done : Stmts → ℕ → Got Program = λ main n. got (record { checked = checked; declarations = ds; main = main }) n in
     into (parseOutermost source (allocated ds .scope .names) at) _ done _ (λ main n.
     expect-next Kinds.END source n _
     ∙ into (expect Kinds.END source n) _ done _ (λ last _.

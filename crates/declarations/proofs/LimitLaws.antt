@@ -235,6 +235,8 @@ literals-length (Sym.memory code (Operand.literal v) ∷ ws) = let h = literals-
 literals-length (Sym.through code n ∷ ws) = let h = literals-length ws in omega (arith, h)
 literals-length (Sym.jump z ∷ ws) = let h = literals-length ws in omega (arith, h)
 literals-length (Sym.return link ∷ ws) = let h = literals-length ws in omega (arith, h)
+literals-length (Sym.saved opcode ∷ ws) = let h = literals-length ws in omega (arith, h)
+literals-length (Sym.stop ∷ ws) = let h = literals-length ws in omega (arith, h)
 
 -- the pool after words
 literals-one : (p : List ℕ) (w : Sym) (ws : List Sym) → withLiterals (withLiterals p (literalOf w [])) (literalsOf ws) ≡ withLiterals p (literalsOf (w ∷ ws))
@@ -246,6 +248,8 @@ literals-one p (Sym.memory code (Operand.literal v)) ws = refl
 literals-one p (Sym.through code n) ws = refl
 literals-one p (Sym.jump z) ws = refl
 literals-one p (Sym.return link) ws = refl
+literals-one p (Sym.saved opcode) ws = refl
+literals-one p Sym.stop ws = refl
 
 emit-pool : (f : Bases) (e : Emitted) (ws : List Sym) → emitAll f e ws .pool ≡ withLiterals (e .pool) (literalsOf ws)
 unfolding emitAll emitWord withWord withLiterals literalsOf

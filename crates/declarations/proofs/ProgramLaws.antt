@@ -1,21 +1,25 @@
 -- Global items, the main body and the whole program.
 use Prim.Native.Nat.{ℕ, _+_, _≤_}
 use mathlib.Core.Path.{_≡_, refl, sym, ap, ap₂, _∙_}
+use mathlib.Core.Bool.{Bool, true, false}
 use mathlib.Core.List.{List, [], _∷_, foldl}
 use native.Mathlib.Omega.{arith}
+use borrow.Author.Tests.{eq-eqb, ne-eqb}
 use lib.ListN.{length, getD}
 use Rattle.source.specs.Kinds
 use Rattle.source.specs.declared.Token.{Token}
+use Rattle.source.specs.Tokens.{tokenAt}
 use Rattle.tree.specs.Tree.{Name, Item, Stmts, Declaration}
 use Rattle.tree.specs.Symbols.{Level, Scope, declare, declareItem}
 use Rattle.layout.specs.Words.{Sym, stmtsWords, mainWords, _⧺_}
 use Rattle.layout.specs.Pool.{literalsOf, addedAll}
 use Rattle.layout.specs.Allocation as layout
 use Rattle.layout.specs.Limits.{mainLimit}
-use Rattle.grammar.specs.Parse.{andThen, within, expect}
+use Rattle.grammar.specs.Parse.{Got, andThen, within, expect}
 use Rattle.grammar.specs.Parse.Got.{got, failed}
 use Rattle.grammar.specs.Statements.{parseOutermost}
-use Rattle.grammar.specs.Declarations.{parseDeclarations}
+use Rattle.grammar.specs.Declarations.{parseChecked, parseDeclarations}
+use Rattle.grammar.specs.Program.{parseMain}
 use Rattle.instruction.specs.Slot.{HLT}
 use Rattle.instruction.specs.Table.{tableOf}
 use Rattle.symbols.specs.Table as tables
@@ -35,8 +39,10 @@ use Rattle.declarations.specs.declared.Scope as code
 use Rattle.declarations.specs.Scopes.{ItemsDeclared}
 use Rattle.declarations.specs.Allocations.{endsOf, endOf, poolOf, globalScope, allocationOf, SoundAllocation, Declared, DeclaredAnyPlan, sectorNumber}
 use Rattle.declarations.specs.Forms.{declarationsOf}
+use Rattle.declarations.specs.Contracts.{afterToken}
 use Rattle.declarations.specs.Procedures.{basesAt, mainIn, MainEmitted, programIn, ProgramEmitted}
 use Rattle.parser.proofs.Answers.{then-got, then-failed}
+use Rattle.parser.proofs.ReadLaws.{then-then}
 use Rattle.declarations.proofs.ScopeLaws.{stored-append, item-words}
 use Rattle.declarations.proofs.LimitLaws.{sector-number, Exact, same-number, limited-exact}
 use Rattle.declarations.proofs.SectorLaws.{ends-length}
@@ -140,27 +146,44 @@ pub none-alive : (table : List ℕ) → tables.liveNames 0 table ≡ []
 unfolding tables.entriesOf
 none-alive table = held-all 0 table (omega arith)
 
+-- whether subscripts are tested
+module _ (source : List ℕ) (at : ℕ) {t : Token} (e : t ≡ tokenAt source at) where
+  pub checked-none : (t .kind ≡ Kinds.CHECKED → ⊥) → parseChecked source at ≡ got false at
+  unfolding parseChecked
+  checked-none k = rw (← e, ne-eqb _ _ k)
+
+  pub checked-on : t .kind ≡ Kinds.CHECKED → parseChecked source at ≡ andThen (expect Kinds.semicolon source (t .next)) (λ _ next. got true next)
+  unfolding parseChecked
+  checked-on k = rw (← e, eq-eqb _ _ k)
+
 module _ (source : List ℕ) where
-  pub program-begin : {k a : ℕ} → expect Kinds.BEGIN source 0 ≡ failed k a → programIn source ≡ failed k a
+  abbrev opened : Got Bool
+  opened = afterToken source Kinds.BEGIN (parseChecked source) 0
+
+  program-opened : programIn source ≡ andThen opened (λ checked n. andThen (parseDeclarations source checked n) (λ ds m. parseMain source checked ds m))
   unfolding programIn
-  program-begin e = then-failed _ e
+  program-opened = then-then (expect Kinds.BEGIN source 0) (λ _ n. parseChecked source n) _
 
-  module _ {t : Token} {n : ℕ} (e : expect Kinds.BEGIN source 0 ≡ got t n) where
-    pub program-declarations : {k a : ℕ} → parseDeclarations source n ≡ failed k a → programIn source ≡ failed k a
-    unfolding programIn
-    program-declarations h = then-got _ e ∙ then-failed _ h
+  pub program-begin : {k a : ℕ} → opened ≡ failed k a → programIn source ≡ failed k a
+  program-begin e = program-opened ∙ then-failed _ e
 
-    pub program-main : {ds : List Declaration} {m : ℕ} {now : layout.Allocation} → parseDeclarations source n ≡ got ds m → now ≡ layout.allocated ds
-        → programIn source ≡ andThen (mainIn source now m) (λ main k. got (record { declarations = ds; main = main }) k)
-    unfolding programIn
-    program-main {ds} {m} h i = then-got _ e ∙ then-got _ h ∙ main-def source ds m ∙ ap (λ st. andThen (mainIn source st m) (λ main k. got (record { declarations = ds; main = main }) k)) (sym i)
+  module _ {checked : Bool} {n : ℕ} (e : opened ≡ got checked n) where
+    pub program-declarations : {k a : ℕ} → parseDeclarations source checked n ≡ failed k a → programIn source ≡ failed k a
+    program-declarations h = program-opened ∙ then-got _ e ∙ then-failed _ h
 
-module _ {plan : SectorEnds} {s₀ s : Allocation} {t image t' image₁ image₂ : List ℕ} {output : Output} {ds : List Declaration} {main : Stmts} where
-  pub program-compiled : allocationOf s₀ t ≡ layout.start → Declared (endOf plan) s₀ t image s t' image₁ ds → MainEmitted plan s t' image₁ output image₂ main → ProgramEmitted plan image s output t' image₂ (record { declarations = ds; main = main })
+    pub program-main : {ds : List Declaration} {m : ℕ} {now : layout.Allocation} → parseDeclarations source checked n ≡ got ds m → now ≡ layout.allocated ds
+        → programIn source ≡ andThen (mainIn source now m) (λ main k. got (record { checked = checked; declarations = ds; main = main }) k)
+    program-main {ds} {m} h i =
+        program-opened ∙ then-got _ e ∙ then-got _ h ∙ main-def source checked ds m
+        ∙ ap (λ st. andThen (mainIn source st m) (λ main k. got (record { checked = checked; declarations = ds; main = main }) k)) (sym i)
+
+module _ {plan : SectorEnds} {s₀ s : Allocation} {t image t' image₁ image₂ : List ℕ} {output : Output} {checked : Bool} {ds : List Declaration} {main : Stmts} where
+  pub program-compiled : allocationOf s₀ t ≡ layout.start → Declared (endOf plan) s₀ t image s t' image₁ ds → MainEmitted plan s t' image₁ output image₂ main → ProgramEmitted plan image checked s output t' image₂ (record { checked = checked; declarations = ds; main = main })
   unfolding layout.allocated emitProgram
   program-compiled e p q =
       let allocation = p .allocation ∙ ap (λ x. foldl layout.allocate x ds) e in
       record {
+        checked = refl;
         allocation = allocation;
         sound = p .sound;
         next = q .next ∙ ap (λ x. layout.finish x main .next) allocation;

@@ -1,6 +1,7 @@
 -- The contracts of the functions that read a part of a declaration, all in one shape: what it starts from and the lent words at entry, the answer and the lent words at exit, and the definition's
 -- result.
 use Prim.Native.Nat.{ℕ, _+_, _≤_}
+use mathlib.Core.Bool.{Bool}
 use mathlib.Core.List.{List, [], _∷_}
 use lib.Dec.{leb}
 use lib.ListN.{length}
@@ -72,7 +73,7 @@ ClosesSector s image r image' g = Declares (SectorClosed s image (r .allocation)
 
 -- a program, by a plan
 abbrev pub CompilesProgram : SectorEnds → List ℕ → ProgramAnswer → List ℕ → List ℕ → Got Program → Type 0
-CompilesProgram plan image r table' image' g = Declares (ProgramEmitted plan image (r .allocation) (r .end) table' image') (r .part) g
+CompilesProgram plan image r table' image' g = Declares (ProgramEmitted plan image (r .checked) (r .allocation) (r .end) table' image') (r .part) g
 
 module _ (s : Scope) (table image : List ℕ) where
   -- items, at either level
@@ -98,8 +99,8 @@ module _ (source : List ℕ) where
   abbrev pub itemListAt : symbols.Scope → ItemKeyword → ℕ → Got (List (Name × Item))
   itemListAt scope word at = separated source Kinds.comma (parseLocal source scope word []) (parseLocal source scope word) at
 
-  abbrev pub arrayListAt : layout.Allocation → ℕ → Got (List Declaration)
-  arrayListAt st at = separated source Kinds.comma (arrayIn source st []) (arrayIn source st) at
+  abbrev pub arrayListAt : Bool → layout.Allocation → ℕ → Got (List Declaration)
+  arrayListAt checked st at = separated source Kinds.comma (arrayIn source checked st []) (arrayIn source checked st) at
 
   abbrev pub valueListAt : symbols.Names → ℕ → ℕ → Got (List ℕ)
   valueListAt names size at = separated source Kinds.comma (parseInitial source names size []) (parseInitial source names size) at

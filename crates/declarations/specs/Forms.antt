@@ -43,17 +43,18 @@ module _ (source : List ℕ) where
       andThen (expect Kinds.rightBracket source k) (λ closing l.
       within (spaceLimit st (sizeOf v)) closing (got (name, sizeOf v) l)))))
 
-  unfoldable pub oneArray : Allocation → ℕ → Got Declaration
-  oneArray st at =
+  -- whether its subscripts are tested is the program's (D17)
+  unfoldable pub oneArray : Bool → Allocation → ℕ → Got Declaration
+  oneArray checked st at =
       andThen (arrayHead st at) (λ head n.
       andThen (parseInitials source (st .scope .names) (head .1) n) (λ values next.
-      got (Declaration.array (head .0) (head .1) values) next))
+      got (Declaration.array (head .0) (head .1) checked values) next))
 
-  unfoldable pub arrayIn : Allocation → List Declaration → ℕ → Got (List Declaration)
-  arrayIn st new at = andThen (oneArray (foldl allocate st new) at) (λ d next. got (snoc new d) next)
+  unfoldable pub arrayIn : Bool → Allocation → List Declaration → ℕ → Got (List Declaration)
+  arrayIn checked st new at = andThen (oneArray checked (foldl allocate st new) at) (λ d next. got (snoc new d) next)
 
-  unfoldable pub arraysIn : Allocation → ℕ → Got (List Declaration)
-  arraysIn st at = parseList source (arrayIn st) [] at
+  unfoldable pub arraysIn : Bool → Allocation → ℕ → Got (List Declaration)
+  arraysIn checked st at = parseList source (arrayIn checked st) [] at
 
   -- a declaration that is judged at its last token
   unfoldable pub limitedIn : Allocation → Declaration → Token → Got (List Declaration)
@@ -84,12 +85,12 @@ module _ (source : List ℕ) where
   accumulatorIn st at = andThen (expect Kinds.PROCEDURE source at) (λ _ n. procedureIn st true n)
 
   -- the declaration that a token begins
-  unfoldable pub declarationIn : Allocation → Token → Got (List Declaration)
-  declarationIn st t =
+  unfoldable pub declarationIn : Bool → Allocation → Token → Got (List Declaration)
+  declarationIn checked st t =
       whether (is Kinds.INTEGER t) (λ _. itemsIn ItemKeyword.integer st (t .next)) λ _.
       whether (is Kinds.CONSTANT t) (λ _. itemsIn ItemKeyword.constant st (t .next)) λ _.
       whether (is Kinds.COMPCONSTANT t) (λ _. itemsIn ItemKeyword.compconstant st (t .next)) λ _.
-      whether (is Kinds.ARRAY t) (λ _. arraysIn st (t .next)) λ _.
+      whether (is Kinds.ARRAY t) (λ _. arraysIn checked st (t .next)) λ _.
       whether (is Kinds.NEXTSECTOR t) (λ _. limitedIn st Declaration.nextSector t) λ _.
       whether (is Kinds.PROCEDURE t) (λ _. procedureIn st false (t .next)) λ _.
       accumulatorIn st (t .next)

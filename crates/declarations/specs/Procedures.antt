@@ -1,6 +1,7 @@
 -- Procedures and the main body: what is emitted before their statements, and after.
 use Prim.Native.Nat.{ℕ, suc, _+_, _*_}
 use mathlib.Core.Path.{_≡_}
+use mathlib.Core.Bool.{Bool}
 use mathlib.Core.List.{List, [], _∷_, foldl}
 use mathlib.Core.Option.{Option, none, some}
 use lib.Dec.{eqb, leb}
@@ -93,10 +94,12 @@ pub record AtStart (s : Allocation) : Type 0 where
 unfoldable pub programIn : List ℕ → Got Program
 programIn source =
     andThen (expect Kinds.BEGIN source 0) (λ _ n.
-    andThen (declarations.parseDeclarations source n) (λ ds m. programs.parseMain source ds m))
+    andThen (declarations.parseChecked source n) (λ checked m.
+    andThen (declarations.parseDeclarations source checked m) (λ ds k. programs.parseMain source checked ds k)))
 
--- a program compiled: the allocation after the declarations, the last sector's code and pool, and the image
-pub record ProgramEmitted (plan : SectorEnds) (image : List ℕ) (s : Allocation) (output : Output) (table' image' : List ℕ) (p : Program) : Type 0 where
+-- a program compiled: whether its subscripts are tested, the allocation after the declarations, the last sector's code and pool, and the image
+pub record ProgramEmitted (plan : SectorEnds) (image : List ℕ) (flag : Bool) (s : Allocation) (output : Output) (table' image' : List ℕ) (p : Program) : Type 0 where
+  pub checked : flag ≡ p .checked
   pub allocation : allocationOf s table' ≡ layout.allocated (p .declarations)
   pub sound : SoundAllocation s
   pub next : output .next ≡ layout.finish (layout.allocated (p .declarations)) (p .main) .next
@@ -109,4 +112,4 @@ programOn source table = whether (leb tableWords (length table)) (λ _. programI
 
 abbrev pub Programs : SectorEnds → List ℕ → List ℕ → List ℕ → ProgramAnswer → List ℕ → List ℕ → Type 0
 Programs plan source table image r table' image' =
-    Declares (ProgramEmitted plan image (r .allocation) (r .end) table' image') (r .part) (programOn source table) × Lengths table image table' image'
+    Declares (ProgramEmitted plan image (r .checked) (r .allocation) (r .end) table' image') (r .part) (programOn source table) × Lengths table image table' image'

@@ -99,11 +99,12 @@ fn array(
     table: &mut [u16],
     image: &mut [u16],
     allocation: Allocation,
+    checked: bool,
     at: usize,
 ) -> AllocationAnswer
     requires { ⌜ Ready allocation (now table) ⌝ }
     ensures { λ r. ⌜ AllocatesOne allocation (now (table .entry)) (now (image .entry)) r (now (table .exit)) (now (image .exit))
-        (oneArray (now (source .entry)) (allocationOf allocation (now (table .entry))) at) ⌝ }
+        (oneArray (now (source .entry)) checked (allocationOf allocation (now (table .entry))) at) ⌝ }
 {
     let head = array_head(source, table, allocation, at);
     let part = head.part;
@@ -121,9 +122,12 @@ fn array(
     let Part::Read { next: _ } = part else {
         return AllocationAnswer { part, allocation };
     };
-    let symbol = Symbol::Array {
-        array: Array { number, size },
+    let declared = Array {
+        number,
+        size,
+        checked,
     };
+    let symbol = Symbol::Array { array: declared };
     AllocationAnswer {
         part,
         allocation: declare_global(table, allocation, allocation.output, first, name, symbol),
@@ -136,17 +140,18 @@ fn array_list(
     table: &mut [u16],
     image: &mut [u16],
     allocation: Allocation,
+    checked: bool,
     at: usize,
 ) -> AllocationAnswer
     requires { ⌜ Ready allocation (now table) ⌝ }
     ensures { λ r. ⌜ AllocatesAnyPlan allocation (now (table .entry)) (now (image .entry)) r (now (table .exit)) (now (image .exit))
-        (arrayListAt (now (source .entry)) (allocationOf allocation (now (table .entry))) at) ⌝ }
+        (arrayListAt (now (source .entry)) checked (allocationOf allocation (now (table .entry))) at) ⌝ }
 {
     let mut current = allocation;
     let mut from = at;
     let mut left = source.len();
     loop {
-        let one = array(source, table, image, current, from);
+        let one = array(source, table, image, current, checked, from);
         let part = one.part;
         let Part::Read { next } = part else {
             return one;
@@ -170,13 +175,14 @@ pub fn arrays(
     table: &mut [u16],
     image: &mut [u16],
     allocation: Allocation,
+    checked: bool,
     at: usize,
 ) -> AllocationAnswer
     requires { ⌜ Ready allocation (now table) ⌝ }
     ensures { λ r. ⌜ AllocatesAnyPlan allocation (now (table .entry)) (now (image .entry)) r (now (table .exit)) (now (image .exit))
-        (arraysIn (now (source .entry)) (allocationOf allocation (now (table .entry))) at) ⌝ }
+        (arraysIn (now (source .entry)) checked (allocationOf allocation (now (table .entry))) at) ⌝ }
 {
-    let list = array_list(source, table, image, allocation, at);
+    let list = array_list(source, table, image, allocation, checked, at);
     let part = list.part;
     let Part::Read { next } = part else {
         return list;

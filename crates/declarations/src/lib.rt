@@ -86,6 +86,12 @@ pub struct ArrayHeadAnswer {
     pub size: u16,
 }
 
+// Whether subscripts are tested.
+pub struct CheckedAnswer {
+    pub part: Part,
+    pub checked: bool,
+}
+
 // How many initial values there are.
 pub struct ValuesAnswer {
     pub part: Part,
@@ -100,9 +106,10 @@ pub struct FrameAnswer {
     pub output: Output,
 }
 
-// A program: the allocation after its declarations, and what is emitted at its end.
+// A program: whether its subscripts are tested, the allocation after its declarations, and what is emitted at its end.
 pub struct ProgramAnswer {
     pub part: Part,
+    pub checked: bool,
     pub allocation: Allocation,
     pub end: Output,
 }

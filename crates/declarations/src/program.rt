@@ -2,14 +2,17 @@
 ghost use mathlib.Core.Path.{_≡_};
 ghost use Prim.Native.Nat.{_≤_};
 ghost use lib.ListN.{length};
-ghost use Rattle.grammar.specs.Declarations.{parseDeclarations};
+ghost use Rattle.source.specs.Kinds as kinds;
+ghost use Rattle.grammar.specs.Declarations.{parseChecked, parseDeclarations};
+ghost use Rattle.declarations.specs.Declares.{Gives};
 ghost use Rattle.declarations.specs.Allocations.{allocationOf};
 ghost use Rattle.declarations.specs.Forms as forms;
 ghost use Rattle.declarations.specs.Procedures.{mainIn, AtStart, programIn, Programs};
-ghost use Rattle.declarations.specs.Contracts.{Ready, Allocates, EmitsMain, CompilesProgram};
+ghost use Rattle.declarations.specs.Contracts.{Ready, Allocates, EmitsMain, CompilesProgram, afterToken};
 ghost use Rattle.declarations.specs.Scopes.{tableWords};
 use crate::Allocation;
 use crate::AllocationAnswer;
+use crate::CheckedAnswer;
 use crate::KeywordFound;
 use crate::ProgramAnswer;
 use crate::SectorEnds;
@@ -36,10 +39,12 @@ use source::Token;
 use source::kind::ACCUMULATOR;
 use source::kind::ARRAY;
 use source::kind::BEGIN;
+use source::kind::CHECKED;
 use source::kind::END_OF_SOURCE;
 use source::kind::INTEGER;
 use source::kind::NEXTSECTOR;
 use source::kind::PROCEDURE;
+use source::kind::SEMICOLON;
 use source::token_at;
 use statements::statements;
 
@@ -60,11 +65,12 @@ fn declaration(
     image: &mut [u16],
     plan: SectorEnds,
     allocation: Allocation,
+    checked: bool,
     t: Token,
 ) -> AllocationAnswer
     requires { ⌜ Ready allocation (now table) ⌝ }
     ensures { λ r. ⌜ Allocates allocation (now (table .entry)) (now (image .entry)) plan r (now (table .exit)) (now (image .exit))
-        (forms.declarationIn (now (source .entry)) (allocationOf allocation (now (table .entry))) t) ⌝ }
+        (forms.declarationIn (now (source .entry)) checked (allocationOf allocation (now (table .entry))) t) ⌝ }
 {
     let kind = t.kind;
     let found = item_keyword(kind);
@@ -72,7 +78,7 @@ fn declaration(
         return global_items(source, table, image, allocation, keyword, t.next);
     }
     if kind == ARRAY {
-        return arrays(source, table, image, allocation, t.next);
+        return arrays(source, table, image, allocation, checked, t.next);
     }
     if kind == NEXTSECTOR {
         return next_sector(source, image, allocation, t);
@@ -90,30 +96,29 @@ fn declarations(
     image: &mut [u16],
     plan: SectorEnds,
     allocation: Allocation,
+    checked: bool,
     at: usize,
 ) -> AllocationAnswer
     requires { ⌜ AtStart allocation × (tableWords ≤ length (now table)) ⌝ }
     ensures { λ r. ⌜ Allocates allocation (now (table .entry)) (now (image .entry)) plan r (now (table .exit)) (now (image .exit))
-        (parseDeclarations (now (source .entry)) at) ⌝ }
+        (parseDeclarations (now (source .entry)) checked at) ⌝ }
 {
     let mut current = allocation;
     let mut from = at;
     let mut left = source.len();
     loop {
         let t = token_at(source, from);
+        let done = AllocationAnswer {
+            part: Part::Read { next: from },
+            allocation: current,
+        };
         if left == 0 {
-            return AllocationAnswer {
-                part: Part::Read { next: from },
-                allocation: current,
-            };
+            return done;
         }
         if !begins(t.kind) {
-            return AllocationAnswer {
-                part: Part::Read { next: from },
-                allocation: current,
-            };
+            return done;
         }
-        let one = declaration(source, table, image, plan, current, t);
+        let one = declaration(source, table, image, plan, current, checked, t);
         let part = one.part;
         let Part::Read { next } = part else {
             return one;
@@ -181,27 +186,63 @@ fn start_allocation() -> Allocation
     }
 }
 
-// `.BEGIN`, declarations, the main body.
+// `.CHECKED` and its `;`, or nothing (D17).
+fn checked_at(source: &[u8], at: usize) -> CheckedAnswer
+    ensures { λ r. ⌜ Gives (r .part) (r .checked) (parseChecked (now (source .entry)) at) ⌝ }
+{
+    let t = token_at(source, at);
+    if t.kind != CHECKED {
+        return CheckedAnswer {
+            part: Part::Read { next: at },
+            checked: false,
+        };
+    }
+    CheckedAnswer {
+        part: expect(source, SEMICOLON, t.next),
+        checked: true,
+    }
+}
+
+// `.BEGIN`, and whether subscripts are tested.
+fn opening(source: &[u8]) -> CheckedAnswer
+    ensures { λ r. ⌜ Gives (r .part) (r .checked)
+        (afterToken (now (source .entry)) kinds.BEGIN (parseChecked (now (source .entry))) 0) ⌝ }
+{
+    let part = expect(source, BEGIN, 0);
+    let Part::Read { next } = part else {
+        return CheckedAnswer {
+            part,
+            checked: false,
+        };
+    };
+    checked_at(source, next)
+}
+
+// The opening, declarations, the main body.
 fn whole(source: &[u8], table: &mut [u16], image: &mut [u16], plan: SectorEnds) -> ProgramAnswer
     requires { ⌜ tableWords ≤ length (now table) ⌝ }
     ensures { λ r. ⌜ CompilesProgram plan (now (image .entry)) r (now (table .exit)) (now (image .exit)) (programIn (now (source .entry))) ⌝ }
 {
     let allocation = start_allocation();
     let end = allocation.output;
-    let part = expect(source, BEGIN, 0);
+    let opened = opening(source);
+    let part = opened.part;
+    let checked = opened.checked;
     let Part::Read { next } = part else {
         return ProgramAnswer {
             part,
+            checked,
             allocation,
             end,
         };
     };
-    let all = declarations(source, table, image, plan, allocation, next);
+    let all = declarations(source, table, image, plan, allocation, checked, next);
     let part = all.part;
     let after = all.allocation;
     let Part::Read { next } = part else {
         return ProgramAnswer {
             part,
+            checked,
             allocation: after,
             end,
         };
@@ -211,6 +252,7 @@ fn whole(source: &[u8], table: &mut [u16], image: &mut [u16], plan: SectorEnds) 
     let end = main.output;
     ProgramAnswer {
         part,
+        checked,
         allocation: after,
         end,
     }
@@ -234,6 +276,7 @@ pub fn program(
         let end = allocation.output;
         return ProgramAnswer {
             part,
+            checked: false,
             allocation,
             end,
         };

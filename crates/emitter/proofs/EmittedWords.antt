@@ -10,7 +10,8 @@ use Rattle.instruction.specs.Encode.{shiftWord}
 use Rattle.tree.specs.Tree.{Id, Operand}
 use Rattle.layout.specs.Words.{Sym, _⧺_}
 use Rattle.layout.specs.Pool.{literalOf, literalsOf}
-use Rattle.layout.specs.Map.{addressOf, reference, wordOf}
+use Rattle.layout.specs.Addresses.{savedWord}
+use Rattle.layout.specs.Map.{addressOf, reference, haltWord, wordOf}
 use Rattle.layout.specs.Emission.{Emitted, Bases, withWord, withLiterals, frameOf, emitWord, emitAll}
 use Rattle.emitter.specs.Emitted.{emittedBy, pooledAll, Puts, Emits}
 use Rattle.emitter.specs.declared.Pool.{Pool}
@@ -50,6 +51,14 @@ module _ (b : Bases) (e : Emitted) where
   unfolding emitWord wordOf withLiterals literalOf
   return-word link = refl
 
+  saved-word : (opcode : ℕ) → emitWord b e (Sym.saved opcode) ≡ withWord e (reference opcode false savedWord)
+  unfolding emitWord wordOf withLiterals literalOf
+  saved-word opcode = refl
+
+  stop-word : emitWord b e Sym.stop ≡ withWord e haltWord
+  unfolding emitWord wordOf withLiterals literalOf
+  stop-word = refl
+
   pub memory-word :
       (opcode : ℕ) (o : Operand) (pool : List ℕ) (address word : ℕ)
       → pool ≡ withLiterals (e .pool) (literalOf (Sym.memory 0 o) []) → address ≡ addressOf (frameOf b pool) o → word ≡ reference opcode false address
@@ -72,6 +81,8 @@ pooled-then p (Sym.memory opcode (Operand.literal v)) vs = refl
 pooled-then p (Sym.through opcode n) vs = refl
 pooled-then p (Sym.jump z) vs = refl
 pooled-then p (Sym.return link) vs = refl
+pooled-then p (Sym.saved opcode) vs = refl
+pooled-then p Sym.stop vs = refl
 
 pooled-append : (p : Pool) (us ws : List Sym) → pooledAll (pooledAll p (literalsOf us)) (literalsOf ws) ≡ pooledAll p (literalsOf (us ⧺ ws))
 unfolding literalsOf _⧺_ pooledAll
@@ -109,3 +120,11 @@ module _ {b : Bases} {o r : Output} {i j : List ℕ} where
   pub emits-generic : (slot : ℕ) → Puts o i r j (getD tableOf slot 0) → Emits b o i r j (Sym.generic slot ∷ [])
   unfolding literalOf
   emits-generic slot p = emits-word (Sym.generic slot) refl (generic-word b (emittedBy o i) slot) p
+
+  pub emits-saved : (opcode : ℕ) → Puts o i r j (reference opcode false savedWord) → Emits b o i r j (Sym.saved opcode ∷ [])
+  unfolding literalOf
+  emits-saved opcode p = emits-word (Sym.saved opcode) refl (saved-word b (emittedBy o i) opcode) p
+
+  pub emits-stop : Puts o i r j haltWord → Emits b o i r j (Sym.stop ∷ [])
+  unfolding literalOf
+  emits-stop p = emits-word Sym.stop refl (stop-word b (emittedBy o i)) p

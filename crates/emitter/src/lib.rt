@@ -7,17 +7,23 @@ ghost use lib.ListN.{length, getD, set};
 ghost use Rattle.instruction.specs.Opcode as opcodes;
 ghost use Rattle.instruction.specs.Table.{tableOf};
 ghost use Rattle.instruction.specs.Encode.{shiftWord};
-ghost use Rattle.symbols.specs.Trees.{treeOperand, treeCell};
-ghost use Rattle.layout.specs.Addresses.{sectorWords, firstGlobal};
-ghost use Rattle.layout.specs.Words.{Sym, reachWords, instructionWord, cellWords};
+ghost use Rattle.tree.specs.Tree.{lowest};
+ghost use Rattle.symbols.specs.Trees.{treeArray, treeOperand, treeSubscript, treeCell};
+ghost use Rattle.layout.specs.Addresses.{sectorWords, savedWord, firstGlobal};
+ghost use Rattle.layout.specs.Words.{Sym, loadWords, aboveWords, belowWords, testWords, reachWords, instructionWord, cellWords};
 ghost use Rattle.layout.specs.Pool.{indexOf, literalOf};
 ghost use Rattle.layout.specs.Map as map;
 ghost use Rattle.layout.specs.Emission.{nextAddress, frameOf};
 ghost use Rattle.emitter.specs.Emitted.{literalsIn, basesOf, noPool, Takes, Puts, Emits};
 ghost use Rattle.emitter.specs.Lays.{filled};
+use instruction::opcode::CAS;
 use instruction::opcode::JMP;
+use instruction::opcode::LDA;
 use instruction::opcode::LDX;
+use instruction::opcode::STA;
+use instruction::slot;
 use layout::addresses;
+use symbols::Array;
 use symbols::Cell;
 use symbols::Id;
 use symbols::Operand;
@@ -30,6 +36,11 @@ pub const LAST_ADDRESS: u16 = 65535;
 const FIRST_GLOBAL: u32 = addresses::FIRST_GLOBAL as u32;
 
 const SECTOR_WORDS: u32 = addresses::SECTOR_WORDS as u32;
+
+const SAVED_WORD: u32 = addresses::SAVED_WORD as u32;
+
+// The highest subscript, -1 (D7).
+const HIGHEST: u16 = 65535;
 
 // As many words as a sector has: no sector holds a longer pool.
 const POOL_WORDS: usize = addresses::SECTOR_WORDS as usize;
@@ -194,6 +205,13 @@ pub fn emit_return(image: &mut [u16], output: Output, link: u16) -> Output
     emit_word(image, output, reference(JMP, true, link as u32))
 }
 
+// An instruction on the word that keeps A while a subscript is tested (A12).
+fn emit_saved(image: &mut [u16], output: Output, opcode: u16) -> Output
+    ensures { λ r. ⌜ Puts output (now (image .entry)) r (now (image .exit)) (map.reference opcode false savedWord) ⌝ }
+{
+    emit_word(image, output, reference(opcode, false, SAVED_WORD))
+}
+
 // A jump that was emitted before its target was known.
 pub fn fill_jump(image: &mut [u16], hole: u16, target: u16)
     ensures { λ _. ⌜ now (image .exit) ≡ filled (now (image .entry)) hole target ⌝ }
@@ -256,21 +274,77 @@ pub fn emit_memory(
     )
 }
 
-// What reaches a cell: an array element's subscript to X, unless it is there (W2).
-pub fn emit_reach(image: &mut [u16], context: Context, output: Output, cell: Cell) -> Output
-    ensures { λ r. ⌜ Emits (basesOf context) output (now (image .entry)) r (now (image .exit)) (reachWords (treeCell cell)) ⌝ }
+// A subscript to X, unless it is there (W2).
+fn emit_load(image: &mut [u16], context: Context, output: Output, subscript: Subscript) -> Output
+    ensures { λ r. ⌜ Emits (basesOf context) output (now (image .entry)) r (now (image .exit)) (loadWords (treeSubscript subscript)) ⌝ }
 {
-    let Cell::Item {
-        array: _,
-        subscript,
-    } = cell
-    else {
-        return output;
-    };
     let Subscript::By { operand } = subscript else {
         return output;
     };
     emit_memory(image, context, output, LDX, operand)
+}
+
+// The first half of a subscript's test: A is kept, and X compared with -1, the highest subscript (W19).
+fn emit_above(image: &mut [u16], context: Context, output: Output) -> Output
+    ensures { λ r. ⌜ Emits (basesOf context) output (now (image .entry)) r (now (image .exit)) aboveWords ⌝ }
+{
+    let kept = emit_saved(image, output, STA);
+    let loaded = emit_memory(image, context, kept, LDA, Operand::Named { id: Id::X });
+    let compared = emit_memory(
+        image,
+        context,
+        loaded,
+        CAS,
+        Operand::Literal { value: HIGHEST },
+    );
+    let stopped = emit_generic(image, compared, slot::HLT);
+    emit_generic(image, stopped, slot::NOP)
+}
+
+// The second half: X is compared with the lowest subscript, and A is back (W19).
+fn emit_below(image: &mut [u16], context: Context, output: Output, lowest: u16) -> Output
+    ensures { λ r. ⌜ Emits (basesOf context) output (now (image .entry)) r (now (image .exit)) (belowWords lowest) ⌝ }
+{
+    let compared = emit_memory(
+        image,
+        context,
+        output,
+        CAS,
+        Operand::Literal { value: lowest },
+    );
+    let passed = emit_generic(image, compared, slot::NOP);
+    let skipped = emit_generic(image, passed, slot::SKP);
+    let stopped = emit_generic(image, skipped, slot::HLT);
+    emit_saved(image, stopped, LDA)
+}
+
+// -size as a word: the lowest subscript, or 0 of an array that has none (D7, W19).
+fn lowest_of(array: Array) -> u16
+    ensures { λ r. ⌜ r ≡ lowest (treeArray array) ⌝ }
+{
+    ((65536 - array.size as u32) % 65536) as u16
+}
+
+// The test of X as a subscript of an array (W19).
+fn emit_subscript_test(image: &mut [u16], context: Context, output: Output, array: Array) -> Output
+    ensures { λ r. ⌜ Emits (basesOf context) output (now (image .entry)) r (now (image .exit)) (testWords (treeArray array)) ⌝ }
+{
+    let within = emit_above(image, context, output);
+    emit_below(image, context, within, lowest_of(array))
+}
+
+// What reaches a cell: an array element's subscript in X, and its test if the array's subscripts are tested (W2, W19).
+pub fn emit_reach(image: &mut [u16], context: Context, output: Output, cell: Cell) -> Output
+    ensures { λ r. ⌜ Emits (basesOf context) output (now (image .entry)) r (now (image .exit)) (reachWords (treeCell cell)) ⌝ }
+{
+    let Cell::Item { array, subscript } = cell else {
+        return output;
+    };
+    let loaded = emit_load(image, context, output, subscript);
+    if array.checked {
+        return emit_subscript_test(image, context, loaded, array);
+    }
+    loaded
 }
 
 // An instruction on a cell that is reached.

@@ -111,16 +111,16 @@ module _ (source : List ℕ) where
       andThen (expect Kinds.rightParenthesis source n) (λ _ next. got values next)))
       (λ _. got [] at)
 
-  -- an array: its name, its size, its initial values (D5, D6); its space is judged at the `]` (J8), and its name is known at the end (D15)
-  unfoldable pub parseArray : List Declaration → ℕ → Got (List Declaration)
-  parseArray ds at =
+  -- an array: its name, its size, its initial values (D5, D6); its space is judged at the `]` (J8), and its name is known at the end (D15). Whether its subscripts are tested is the program's (D17)
+  unfoldable pub parseArray : Bool → List Declaration → ℕ → Got (List Declaration)
+  parseArray checked ds at =
       let st = allocated ds in
       andThen (newName source (st .scope) (nameLimit (st .scope)) (tokenAt source at)) (λ name n.
       andThen (expect Kinds.leftBracket source n) (λ _ m.
       andThen (parseInRange source (st .scope .names) (λ v. leb (sizeOf v) 8192) m) (λ v k.
       andThen (expect Kinds.rightBracket source k) (λ closing l.
       within (spaceLimit st (sizeOf v)) closing (andThen (parseInitials (st .scope .names) (sizeOf v) l) (λ values next.
-      got (snoc ds (Declaration.array name (sizeOf v) values)) next))))))
+      got (snoc ds (Declaration.array name (sizeOf v) checked values)) next))))))
 
   -- a declaration that is judged at its last token, then `;`: even if that is missing, and at a next sector before the move (J8)
   unfoldable pub parseLimited : List Declaration → Declaration → Token → Got (List Declaration)
@@ -144,19 +144,25 @@ module _ (source : List ℕ) where
   parseAccumulator ds at = andThen (expect Kinds.PROCEDURE source at) (λ _ n. parseProcedure ds true n)
 
   -- each declaration by the keyword that begins it (D1); a next sector has no name (D8)
-  abbrev pub declarationKeywords : List (ℕ × (List Declaration → Token → Got (List Declaration)))
-  declarationKeywords =
+  abbrev pub declarationKeywords : Bool → List (ℕ × (List Declaration → Token → Got (List Declaration)))
+  declarationKeywords checked =
       (Kinds.INTEGER, λ ds t. parseList (parseGlobal ItemKeyword.integer) ds (t .next)) ∷
       (Kinds.CONSTANT, λ ds t. parseList (parseGlobal ItemKeyword.constant) ds (t .next)) ∷
       (Kinds.COMPCONSTANT, λ ds t. parseList (parseGlobal ItemKeyword.compconstant) ds (t .next)) ∷
-      (Kinds.ARRAY, λ ds t. parseList parseArray ds (t .next)) ∷
+      (Kinds.ARRAY, λ ds t. parseList (parseArray checked) ds (t .next)) ∷
       (Kinds.NEXTSECTOR, λ ds t. parseLimited ds Declaration.nextSector t) ∷
       (Kinds.PROCEDURE, λ ds t. parseProcedure ds false (t .next)) ∷
       (Kinds.ACCUMULATOR, λ ds t. parseAccumulator ds (t .next)) ∷ []
 
+  -- whether `.CHECKED` and its `;` stand here, right behind the program's `.BEGIN` (D17). Nothing else looks for it, so anywhere else it is 6 (D2, J5)
+  unfoldable pub parseChecked : ℕ → Got Bool
+  parseChecked at =
+      let t = tokenAt source at in
+      whether (is Kinds.CHECKED t) (λ _. andThen (expect Kinds.semicolon source (t .next)) (λ _ next. got true next)) (λ _. got false at)
+
   -- any declarations, each read under the allocation after those before it; the first token that begins none ends them (D1, D2)
-  unfoldable pub parseDeclarations : ℕ → Got (List Declaration)
-  parseDeclarations at =
+  unfoldable pub parseDeclarations : Bool → ℕ → Got (List Declaration)
+  parseDeclarations checked at =
       repeat source (λ ds n.
       let t = tokenAt source n in
-      asOneOf declarationKeywords t (λ parse. some (parse ds t)) (λ _. none)) [] at
+      asOneOf (declarationKeywords checked) t (λ parse. some (parse ds t)) (λ _. none)) [] at

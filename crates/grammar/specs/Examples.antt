@@ -1,7 +1,7 @@
 -- Worked examples of trees, decided by computation.
 use mathlib.Core.Path.{_≡_, refl}
 use Prim.Native.Nat.{ℕ}
-use mathlib.Core.Bool.{true}
+use mathlib.Core.Bool.{true, false}
 use mathlib.Core.List.{List, [], _∷_, map}
 use Rattle.prelude.specs.Text.{bytes}
 use Rattle.tree.specs.Tree.{Id, Array, Operand, Subscript, Cell, Unary, Operator, Shift, Operation, Relation, Test, Bare, Expr, Term, Cond, Target, Stmt, Stmts, Item, Declaration}
@@ -17,6 +17,7 @@ first-program :
     parseProgram (bytes ".BEGIN .INTEGER A; A = 2140 + 1875 + 960 .END")
     ≡ got
     (record {
+      checked = false;
       declarations = Declaration.item (bytes "A") Item.integer ∷ [];
       main = Stmts.one (Stmt.assign (Target.integer (Id.global 0)) (Expr.chain [] (Term.cell (Cell.plain (Operand.literal 2140)))
           (Operation.binary Operator.add (Cell.plain (Operand.literal 1875)) ∷ Operation.binary Operator.add (Cell.plain (Operand.literal 960)) ∷ [])));
@@ -26,20 +27,21 @@ unfolding computed
 first-program = refl
 
 -- it holds one empty statement
-empty-program : parseProgram (bytes ".BEGIN .END") ≡ got (record { declarations = []; main = Stmts.one Stmt.empty }) 11
+empty-program : parseProgram (bytes ".BEGIN .END") ≡ got (record { checked = false; declarations = []; main = Stmts.one Stmt.empty }) 11
 unfolding computed
 empty-program = refl
 
 abbrev t : Array
-t = record { number = 1; size = 2 }
+t = record { number = 1; size = 2; checked = false }
 
 -- a constant's name as value, a negative size, octal; locals that hide globals; an accumulator procedure; ids, which count all globals that take a word
 every-declaration :
     parseProgram (bytes ".BEGIN .CONSTANT K=3; .COMPCONSTANT C=-1; .ARRAY T[-2](K,'17); .ACCUMULATOR .PROCEDURE P; .BEGIN .COMPCONSTANT C=5; .INTEGER K; K=C .END; .NEXTSECTOR; P; P(1); @=P; T[C]=P(T[#]) + K .END")
     ≡ got
     (record {
+      checked = false;
       declarations =
-          Declaration.item (bytes "K") (Item.constant 3) ∷ Declaration.item (bytes "C") (Item.compconstant 65535) ∷ Declaration.array (bytes "T") 2 (3 ∷ 15 ∷ []) ∷
+          Declaration.item (bytes "K") (Item.constant 3) ∷ Declaration.item (bytes "C") (Item.compconstant 65535) ∷ Declaration.array (bytes "T") 2 false (3 ∷ 15 ∷ []) ∷
           Declaration.procedure (bytes "P") true ((bytes "C", Item.compconstant 5) ∷ (bytes "K", Item.integer) ∷ [])
           (Stmts.one (Stmt.assign (Target.integer (Id.local 2 0)) (Expr.chain [] (Term.cell (Cell.plain (Operand.literal 5))) []))) ∷
           Declaration.nextSector ∷ [];
@@ -51,6 +53,24 @@ every-declaration :
     186
 unfolding computed
 every-declaration = refl
+
+-- with `.CHECKED` first, every array and every use of it has the flag, in a procedure and in the main body (D17)
+abbrev u : Array
+u = record { number = 0; size = 1; checked = true }
+
+checked-program :
+    parseProgram (bytes ".BEGIN .CHECKED; .ARRAY U[1]; .PROCEDURE P; .BEGIN @ = U[#] .END; U[-1] = @ .END")
+    ≡ got
+    (record {
+      checked = true;
+      declarations =
+          Declaration.array (bytes "U") 1 true [] ∷
+          Declaration.procedure (bytes "P") false [] (Stmts.one (Stmt.toA (Expr.chain [] (Term.cell (Cell.item u Subscript.hash)) []))) ∷ [];
+      main = Stmts.one (Stmt.assign (Target.item u (Subscript.by (Operand.literal 65535))) (Expr.chain [] Term.accumulator []));
+    })
+    80
+unfolding computed
+checked-program = refl
 
 -- an expression or a statement that stands alone, with no name but X
 abbrev expression : List ℕ → Got Expr

@@ -97,6 +97,21 @@ rows =
     (".BEGIN .WHEN .ZERO .ZERO .THEN .END", 0, 0) ∷
     (".BEGIN @=X + .ZERO .END", 6, 13) ∷
     (".BEGIN @=.NEG .IF .CSET .THEN 1 .ELSE 2 .END", 6, 14) ∷
+    -- `.CHECKED`: right behind the program's `.BEGIN`, once and with its `;`; a second one, one behind another declaration or in a procedure, without its `;`, as a statement, in a compound or an expression, before `.BEGIN`; and `.CHECK`, which is no keyword (D17, F6, T6)
+    (".BEGIN .CHECKED; .END", 0, 0) ∷
+    (".BEGIN .CHECKED; .INTEGER I; .ARRAY T[2]; .PROCEDURE P; .BEGIN T[I]=1 .END; P; #=T[#] .END", 0, 0) ∷
+    (".BEGIN .CHECKED; .CHECKED; .END", 6, 17) ∷
+    (".BEGIN .INTEGER I; .CHECKED; .END", 6, 19) ∷
+    (".BEGIN .NEXTSECTOR; .CHECKED; .END", 6, 20) ∷
+    (".BEGIN .PROCEDURE P; .BEGIN .CHECKED; .END; .END", 6, 28) ∷
+    (".BEGIN .CHECKED .INTEGER I; .END", 6, 16) ∷
+    (".BEGIN .CHECKED, I; .END", 6, 15) ∷
+    (".BEGIN .CHECKED", 6, 15) ∷
+    (".BEGIN @=1; .CHECKED .END", 6, 12) ∷
+    (".BEGIN .BEGIN .CHECKED; .END .END", 6, 14) ∷
+    (".BEGIN @=.CHECKED .END", 6, 9) ∷
+    (".CHECKED; .BEGIN .END", 6, 0) ∷
+    (".BEGIN .CHECK; .END", 4, 7) ∷
     -- `*`, `/` and `.MOD`: with a cell only, after an expression's part only (E7, T2, F6); the minus behind them and behind their cell (T11)
     (".BEGIN .ARRAY T[2]; @=X*2/T[X] .MOD2*T[#]-1 .END", 0, 0) ∷
     (".BEGIN @=X*(2) .END", 6, 11) ∷

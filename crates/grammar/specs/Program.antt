@@ -1,5 +1,6 @@
 -- A program.
 use Prim.Native.Nat.{ℕ}
+use mathlib.Core.Bool.{Bool}
 use mathlib.Core.List.{List}
 use lib.ListN.{length}
 use lib.Dec.{leb}
@@ -11,20 +12,21 @@ use Rattle.layout.specs.Limits.{mainLimit}
 use Rattle.grammar.specs.Parse.{Got, andThen, within, expect}
 use Rattle.grammar.specs.Parse.Got.{got, failed}
 use Rattle.grammar.specs.Statements.{parseOutermost}
-use Rattle.grammar.specs.Declarations.{parseDeclarations}
+use Rattle.grammar.specs.Declarations.{parseChecked, parseDeclarations}
 
 -- the main body, after the declarations (D1): its limits are judged at the `.END` (J8), and the source must end behind that (J11)
-unfoldable pub parseMain : List ℕ → List Declaration → ℕ → Got Program
-parseMain source ds at =
+unfoldable pub parseMain : List ℕ → Bool → List Declaration → ℕ → Got Program
+parseMain source checked ds at =
     andThen (parseOutermost source (allocated ds .scope .names) at) (λ main n.
     andThen (expect Kinds.END source n) (λ last m.
     within (mainLimit (allocated ds) main) last (andThen (expect Kinds.endOfSource source m) (λ _ next.
-    got (record { declarations = ds; main = main }) next))))
+    got (record { checked = checked; declarations = ds; main = main }) next))))
 
--- a program (D1); a source that is too long is 3 at 0, before anything is read (F3, J1)
+-- a program (D1, D17); a source that is too long is 3 at 0, before anything is read (F3, J1)
 unfoldable pub parseProgram : List ℕ → Got Program
 parseProgram source =
     whether (leb (length source) 8192)
     (λ _. andThen (expect Kinds.BEGIN source 0) (λ _ n.
-    andThen (parseDeclarations source n) (λ ds m. parseMain source ds m)))
+    andThen (parseChecked source n) (λ checked m.
+    andThen (parseDeclarations source checked m) (λ ds k. parseMain source checked ds k))))
     (λ _. failed 3 0)

@@ -81,6 +81,8 @@ fn arrays() {
     example(b"milk.pl516", 1, b"0000");
     example(b"months.pl516", 1, b"0000");
     example(b"outside.pl516", 1, b"0000");
+    example(b"checked.pl516", 1, b"0000");
+    example(b"tested.pl516", 1, b"0000");
     example(b"letters.pl516", 1, b"0000");
 }
 

@@ -16,6 +16,10 @@ lastSector = 31
 abbrev pub closedSectors : ℕ
 closedSectors = 30
 
+-- the word that keeps A while a subscript is tested, in a program whose subscripts are (A12)
+abbrev pub savedWord : ℕ
+savedWord = 2
+
 -- the first word of the globals (A3)
 abbrev pub firstGlobal : ℕ
 firstGlobal = 0o200

@@ -44,8 +44,8 @@ withScope st scope = record { scope = scope; next = st .next; pool = st .pool; e
 unfoldable pub allocate : Allocation → Declaration → Allocation
 allocate st (Declaration.item name item) = withScope st (declareItem (st .scope) (name, item))
 -- an array takes a word there too, and the next one's element 0 is lower by its size (A5)
-allocate st (Declaration.array name size values) =
-    let scope = declare (st .scope) name (Symbol.array (record { number = st .scope .taken; size = size })) 1 in
+allocate st (Declaration.array name size checked values) =
+    let scope = declare (st .scope) name (Symbol.array (record { number = st .scope .taken; size = size; checked = checked })) 1 in
     record { scope = scope; next = st .next; pool = st .pool; ends = st .ends; array = st .array - size }
 -- a procedure as well; its locals, link and code are next (A4). After it its name is known and its locals are gone (D15)
 allocate st (Declaration.procedure name accumulator locals body) =

@@ -82,7 +82,7 @@ padded (suc n) (v ∷ vs) = v ∷ padded n vs
 -- a declaration, under the allocation before it and the address of its sector's pool
 unfoldable pub emitDeclaration : ℕ → Allocation → Declaration → List ℕ → List ℕ
 emitDeclaration poolAt st (Declaration.item name item) image = stored image (firstGlobal + st .scope .taken) (itemValues item)
-emitDeclaration poolAt st (Declaration.array name size values) image =
+emitDeclaration poolAt st (Declaration.array name size checked values) image =
     stored (set image (firstGlobal + st .scope .taken) (arrayTag + st .array)) (st .array - size) (padded size values)
 emitDeclaration poolAt st (Declaration.procedure name accumulator locals body) image =
     let link = linkOf st name locals in

@@ -1,16 +1,16 @@
 -- Worked examples of symbolic words, of the pool, of the map and of limits, decided by computation. Those on whole sources are in the crate compilation.
 use mathlib.Core.Path.{_≡_, refl}
 use Prim.Native.Nat.{ℕ}
-use mathlib.Core.Bool.{false}
+use mathlib.Core.Bool.{true, false}
 use lib.ListN.{take, drop, replicate}
 use mathlib.Core.List.{List, [], _∷_, map}
 use Rattle.word.specs.Shift.{LRS, LLS}
 use Rattle.instruction.specs.Opcode.{LDA, STA, ADD, CAS, IRS, LDX, MPY, DIV}
 use Rattle.instruction.specs.Slot.{HLT, SKP, NOP, SSC, CRA, TCA, AOA, IAB}
-use Rattle.tree.specs.Tree.{Id, Array, Operand, Subscript, Cell, Unary, Operator, Operation, Relation, Bare, Expr, Term, Cond, Target, Stmt, Stmts, Item, Declaration, Program}
-use Rattle.layout.specs.Words.{Sym, stmtEnd, exprWords, condWords, stmtWords, mainWords}
+use Rattle.tree.specs.Tree.{Id, CellId, Array, Operand, Subscript, Cell, Unary, Operator, Operation, Relation, Bare, Expr, Term, Cond, Target, Stmt, Stmts, Item, Declaration, Program}
+use Rattle.layout.specs.Words.{Sym, _⧺_, stmtEnd, exprWords, condWords, stmtWords, mainWords}
 use Rattle.layout.specs.Pool.{literalsOf, indexOf, addedAll}
-use Rattle.layout.specs.Map.{imageOf}
+use Rattle.layout.specs.Map.{Role, wordOf, imageOf, mapAt}
 use Rattle.layout.specs.Computed.{computed}
 use Rattle.layout.specs.Allocation.{Allocation, start, allocate}
 use Rattle.layout.specs.Limits.{spaceLimit, sectorLimit, declarationLimit, mainLimit}
@@ -23,10 +23,14 @@ abbrev j : Id
 j = Id.global 3
 
 abbrev a : Array
-a = record { number = 0; size = 3 }
+a = record { number = 0; size = 3; checked = false }
 
 abbrev b : Array
-b = record { number = 1; size = 2 }
+b = record { number = 1; size = 2; checked = false }
+
+-- the first of them with its subscripts tested
+abbrev tested : Array
+tested = record { number = 0; size = 3; checked = true }
 
 abbrev five : Operand
 five = Operand.literal 5
@@ -72,6 +76,43 @@ divided :
     (Sym.shift LRS 15 ∷ Sym.through DIV 1 ∷ []) ∷ []
 unfolding computed
 divided = refl
+
+-- the test of a subscript: behind the LDX, in its place for `#`, and ahead of the LRS of `.MOD` (W19)
+abbrev test : ℕ → List Sym
+test low =
+    Sym.saved STA ∷ Sym.memory LDA (Operand.named Id.x) ∷ Sym.memory CAS (Operand.literal 65535) ∷ Sym.stop ∷ Sym.generic NOP ∷
+    Sym.memory CAS (Operand.literal low) ∷ Sym.generic NOP ∷ Sym.generic SKP ∷ Sym.stop ∷ Sym.saved LDA ∷ []
+
+loaded : exprWords (Expr.chain [] (Term.cell (Cell.item tested (Subscript.by (Operand.named i)))) []) 0o1000 ≡ (Sym.memory LDX (Operand.named i) ∷ test 65533) ⧺ Sym.through LDA 0 ∷ []
+unfolding computed
+loaded = refl
+
+stored : stmtWords (Stmt.assign (Target.item tested Subscript.hash) zero) 0o1000 ≡ (Sym.generic CRA ∷ test 65533) ⧺ Sym.through STA 0 ∷ []
+unfolding computed
+stored = refl
+
+set-x : stmtWords (Stmt.setX (Cell.item tested (Subscript.by five))) 0o1000 ≡ (Sym.memory LDX five ∷ test 65533) ⧺ Sym.through LDX 0 ∷ []
+unfolding computed
+set-x = refl
+
+for-x :
+    stmtWords (Stmt.forX (Cell.item tested Subscript.hash) Stmt.empty) 0o1000
+    ≡ test 65533 ⧺ Sym.through LDX 0 ∷ Sym.memory IRS (Operand.named Id.x) ∷ Sym.jump 0o1013 ∷ []
+unfolding computed
+for-x = refl
+
+divided-by-tested :
+    map (λ s. exprWords (Expr.chain [] Term.accumulator (Operation.binary Operator.modulo (Cell.item tested s) ∷ [])) 0o1000) (Subscript.by five ∷ Subscript.hash ∷ [])
+    ≡ ((Sym.memory LDX five ∷ test 65533) ⧺ Sym.shift LRS 15 ∷ Sym.through DIV 0 ∷ Sym.generic IAB ∷ []) ∷
+    (test 65533 ⧺ Sym.shift LRS 15 ∷ Sym.through DIV 0 ∷ Sym.generic IAB ∷ []) ∷ []
+unfolding computed
+divided-by-tested = refl
+
+compared-with-tested :
+    condWords (Cond.relation Relation.equal zero (Cell.item tested Subscript.hash)) 0o1000 0o2000
+    ≡ (Sym.generic CRA ∷ test 65533) ⧺ Sym.through CAS 0 ∷ Sym.generic SKP ∷ Sym.generic SKP ∷ Sym.jump 0o2000 ∷ []
+unfolding computed
+compared-with-tested = refl
 
 remainder :
     operated Operator.modulo
@@ -161,6 +202,7 @@ abbrev twoSectors : Program
 twoSectors =
     let assigned = Stmt.assign (Target.integer (Id.global 0)) in
     record {
+      checked = false;
       declarations =
           Declaration.item [] Item.integer ∷ Declaration.procedure [] false [] (Stmts.one (assigned (Expr.chain [] (Term.cell (Cell.plain five)) []))) ∷ Declaration.nextSector ∷ [];
       main = Stmts.one (assigned (Expr.chain [] (Term.cell (Cell.plain (Operand.literal 6))) (Operation.binary Operator.add (Cell.plain five) ∷ [])));
@@ -174,11 +216,30 @@ two-sectors :
 unfolding computed
 two-sectors = refl
 
+-- `.CHECKED; .ARRAY T[size]`, then `@ = T[7]`: LDX 7, the ten words of the test, LDA* T, HLT; the pool has 7, -1 and -size, equal ones once (W19, A7)
+abbrev testedProgram : ℕ → Program
+testedProgram size =
+    let array : Array = record { number = 0; size = size; checked = true } in
+    record {
+      checked = true;
+      declarations = Declaration.array [] size true [] ∷ [];
+      main = Stmts.one (Stmt.toA (Expr.chain [] (Term.cell (Cell.item array (Subscript.by (Operand.literal 7)))) []));
+    }
+
+tested-words :
+    map {B = List ℕ} (λ size. take 17 (drop 0o1000 (imageOf (testedProgram size)))) (3 ∷ 1 ∷ 0 ∷ [])
+    ≡ (0o073015 ∷ 0o010002 ∷ 0o004000 ∷ 0o023016 ∷ 0o000000 ∷ 0o101000 ∷ 0o023017 ∷ 0o101000 ∷ 0o100000 ∷ 0o000000 ∷ 0o004002 ∷ 0o104200 ∷ 0o000000 ∷ 7 ∷ 65535 ∷ 65533 ∷ 0 ∷ []) ∷
+    (0o073015 ∷ 0o010002 ∷ 0o004000 ∷ 0o023016 ∷ 0o000000 ∷ 0o101000 ∷ 0o023016 ∷ 0o101000 ∷ 0o100000 ∷ 0o000000 ∷ 0o004002 ∷ 0o104200 ∷ 0o000000 ∷ 7 ∷ 65535 ∷ 0 ∷ 0 ∷ []) ∷
+    (0o073015 ∷ 0o010002 ∷ 0o004000 ∷ 0o023016 ∷ 0o000000 ∷ 0o101000 ∷ 0o023017 ∷ 0o101000 ∷ 0o100000 ∷ 0o000000 ∷ 0o004002 ∷ 0o104200 ∷ 0o000000 ∷ 7 ∷ 65535 ∷ 0 ∷ 0 ∷ []) ∷ []
+unfolding computed
+tested-words = refl
+
 -- `.CONSTANT K = 7; .ARRAY T[2](8); .COMPCONSTANT C = 9; .INTEGER B`, then `B = K`: K, T's word, B; LDA K, STA B; the lowest element first, and 16,383, which no array has
 abbrev globals : Program
 globals =
     record {
-      declarations = Declaration.item [] (Item.constant 7) ∷ Declaration.array [] 2 (8 ∷ []) ∷ Declaration.item [] (Item.compconstant 9) ∷ Declaration.item [] Item.integer ∷ [];
+      checked = false;
+      declarations = Declaration.item [] (Item.constant 7) ∷ Declaration.array [] 2 false (8 ∷ []) ∷ Declaration.item [] (Item.compconstant 9) ∷ Declaration.item [] Item.integer ∷ [];
       main = Stmts.one (Stmt.assign (Target.integer (Id.global 2)) (Expr.chain [] (Term.cell (Cell.plain (Operand.named (Id.global 0)))) []));
     }
 
@@ -187,6 +248,21 @@ every-global :
     ≡ (7 ∷ 0o077777 ∷ 0 ∷ 0 ∷ []) ∷ (0o004200 ∷ 0o010202 ∷ 0 ∷ 0 ∷ []) ∷ (0 ∷ 8 ∷ 0 ∷ 0 ∷ []) ∷ []
 unfolding computed
 every-global = refl
+
+-- the words of a test that are not those of other forms, and what word 2 is at first (W19, A12)
+test-words :
+    map (wordOf (record { pool = []; poolAt = 0o1000; locals = 0o1000 })) (Sym.saved STA ∷ Sym.saved LDA ∷ Sym.stop ∷ []) ∷ take 3 (imageOf (testedProgram 3)) ∷ []
+    ≡ (0o010002 ∷ 0o004002 ∷ 0 ∷ []) ∷ (0 ∷ 0 ∷ 0 ∷ []) ∷ []
+unfolding computed
+test-words = refl
+
+-- what the map tells apart: X, word 2 only where subscripts are tested, and the two HLTs of a test, but not the one that ends the main body (A12)
+told-apart :
+    map (mapAt (testedProgram 3)) (0 ∷ 1 ∷ 2 ∷ 0o1004 ∷ 0o1005 ∷ 0o1011 ∷ 0o1014 ∷ []) ∷ map (mapAt globals) (0 ∷ 1 ∷ 2 ∷ []) ∷ []
+    ≡ (Role.cell (CellId.named Id.x) 0 ∷ Role.free ∷ Role.saved ∷ Role.stop ∷ Role.fixed 0o101000 ∷ Role.stop ∷ Role.fixed 0 ∷ []) ∷
+    (Role.cell (CellId.named Id.x) 0 ∷ Role.free ∷ Role.free ∷ []) ∷ []
+unfolding computed
+told-apart = refl
 
 -- ---- Limits
 

@@ -33,7 +33,7 @@ followLimit st (suc n) = suc n
 -- what is judged at a procedure's `.END`, its closing JMP counted, and at `.NEXTSECTOR`, which has not moved yet (J8)
 unfoldable pub declarationLimit : Allocation → Declaration → ℕ
 declarationLimit st (Declaration.item name item) = 0
-declarationLimit st (Declaration.array name size values) = 0
+declarationLimit st (Declaration.array name size checked values) = 0
 declarationLimit st (Declaration.procedure name accumulator locals body) = sectorLimit (allocate st (Declaration.procedure name accumulator locals body))
 declarationLimit st Declaration.nextSector = followLimit st (sectorLimit st)
 

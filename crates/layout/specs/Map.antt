@@ -1,12 +1,15 @@
 -- THE MEMORY MAP of a program (group A of docs/REFERENCE.md): what each of the 16,384 words is for.
 --
--- A map gives the word at each address its role, what it is for, and not only what it is at first: a word that nothing changes (code, pool, array words, procedure words), the home of a cell,
--- a procedure's link, or a word that is not used. The image is the first value of each word; the theorems (crate memory_map) and the simulation (crate semantics) go by the roles.
+-- A map gives the word at each address its role, what it is for, and not only what it is at first: a word that nothing changes (code, pool, array words, procedure words; of these the HLT of a
+-- subscript's test is told apart), the home of a cell, a procedure's link, the word that keeps A while a subscript is tested, or a word that is not used.
+-- The image is the first value of each word; the theorems (crate memory_map) and the simulation (crate semantics) go by the roles.
 --
 -- From the lowest address up, octal where it has a `'`:
 --
 --     0              X
---     1 to '177      not used
+--     1              not used
+--     2              A, while a subscript is tested, in a program whose subscripts are; else not used
+--     3 to '177      not used
 --     '200 to '777   the globals, a word each as far as they go: an integer or a constant; an array's word; a procedure's word
 --     '1000          sector 1: of each procedure its locals, its link and its code; then the pool of the sector; then words not used
 --     '2000          sector 2, and so on; the main body is in the sector that is open at its place, the last one
@@ -29,6 +32,7 @@ use mathlib.Core.List.{List, [], _∷_, _++_, map}
 use lib.Dec.{leb, eqb}
 use lib.ListN.{length, getD, take, drop, replicate}
 use Rattle.instruction.specs.Opcode.{JMP, LDX}
+use Rattle.instruction.specs.Slot.{HLT}
 use Rattle.instruction.specs.Table.{tableOf}
 use Rattle.instruction.specs.Encode.{memoryWord, shiftWord}
 use Rattle.tree.specs.Tree.{Id, CellId, Operand, Name, Item, Stmts, Declaration, Program}
@@ -36,7 +40,7 @@ use Rattle.tree.specs.Symbols.{wordsTaken, itemValue}
 use Rattle.layout.specs.Words.{Sym, procedureWords, mainWords}
 use Rattle.layout.specs.Pool.{indexOf}
 use Rattle.layout.specs.Allocation.{Allocation, start, linkOf, allocate, allocated, finish}
-use Rattle.layout.specs.Addresses.{memoryWords, sectorWords, firstGlobal, arrayTag}
+use Rattle.layout.specs.Addresses.{memoryWords, sectorWords, firstGlobal, savedWord, arrayTag}
 
 -- ---- Symbolic words as words
 
@@ -57,7 +61,11 @@ addressOf f (Operand.literal v) = f .poolAt + indexOf (f .pool) v
 unfoldable pub reference : ℕ → Bool → ℕ → ℕ
 reference opcode indirect address = memoryWord opcode indirect (eqb opcode LDX) (leb sectorWords address) (address % sectorWords)
 
--- the word of each: indirect through an array's or procedure's word, and to a link (W2, W14, W16)
+-- the word of HLT
+abbrev pub haltWord : ℕ
+haltWord = getD tableOf HLT 0
+
+-- the word of each: indirect through an array's or procedure's word, and to a link (W2, W14, W16); of a test on word 2, and HLT (W19)
 unfoldable pub wordOf : Frame → Sym → ℕ
 wordOf f (Sym.generic slot) = getD tableOf slot 0
 wordOf f (Sym.shift kind n) = shiftWord kind n
@@ -65,25 +73,43 @@ wordOf f (Sym.memory opcode o) = reference opcode false (addressOf f o)
 wordOf f (Sym.through opcode n) = reference opcode true (firstGlobal + n)
 wordOf f (Sym.jump z) = reference JMP false z
 wordOf f (Sym.return link) = reference JMP true link
+wordOf f (Sym.saved opcode) = reference opcode false savedWord
+wordOf f Sym.stop = haltWord
 
 -- ---- The map
 
--- the role of a word: one of the image that nothing changes; the home of a cell, with its initial value; the link of a procedure; not used
+-- the role of a word: one of the image that nothing changes; the HLT of a subscript's test, which nothing changes either; the home of a cell, with its initial value; the link of a procedure;
+-- the word that keeps A while a subscript is tested; not used
 pub data Role : Type 0 where
   fixed : ℕ → Role
+  stop : Role
   cell : CellId → ℕ → Role
   link : ℕ → Role
+  saved : Role
   free : Role
 
--- its value in the image: a link is 0, and so is a word that is not used (W16, A6)
+-- its value in the image: a link is 0 (W16), and so are the word that keeps A and one that is not used (A6, A12)
 abbrev pub initial : Role → ℕ
 initial (Role.fixed w) = w
+initial Role.stop = haltWord
 initial (Role.cell c v) = v
 initial (Role.link p) = 0
+initial Role.saved = 0
 initial Role.free = 0
 
+-- a symbolic word's role
+unfoldable pub roleOf : Frame → Sym → Role
+roleOf f (Sym.generic slot) = Role.fixed (wordOf f (Sym.generic slot))
+roleOf f (Sym.shift kind n) = Role.fixed (wordOf f (Sym.shift kind n))
+roleOf f (Sym.memory opcode o) = Role.fixed (wordOf f (Sym.memory opcode o))
+roleOf f (Sym.through opcode n) = Role.fixed (wordOf f (Sym.through opcode n))
+roleOf f (Sym.jump z) = Role.fixed (wordOf f (Sym.jump z))
+roleOf f (Sym.return l) = Role.fixed (wordOf f (Sym.return l))
+roleOf f (Sym.saved opcode) = Role.fixed (wordOf f (Sym.saved opcode))
+roleOf f Sym.stop = Role.stop
+
 unfoldable pub fixedWords : Frame → List Sym → List Role
-fixedWords f ws = map (λ w. Role.fixed (wordOf f w)) ws
+fixedWords f ws = map (roleOf f) ws
 
 -- a map with some words from an address on replaced
 unfoldable pub placed : List Role → ℕ → List Role → List Role
@@ -117,7 +143,7 @@ unfoldable pub placeDeclaration : Plan → Allocation → Declaration → List R
 -- an item: the next word of the globals, if it takes one (A3)
 placeDeclaration p st (Declaration.item name item) m = placed m (firstGlobal + st .scope .taken) (itemWords (Id.global (st .scope .taken)) item)
 -- an array: its word, with the tag and the address of element 0 (A3); its elements, -size to -1, end right below that (A5)
-placeDeclaration p st (Declaration.array name size values) m =
+placeDeclaration p st (Declaration.array name size checked values) m =
     let number = st .scope .taken in
     placed (placed m (firstGlobal + number) (Role.fixed (arrayTag + st .array) ∷ [])) (st .array - size) (elements number (65536 - size) size values)
 -- a procedure: its word, the link's address (A3); its locals, its link, its code (W16)
@@ -134,6 +160,11 @@ unfoldable pub placeAll : (ℕ → Plan) → Allocation → List Declaration →
 placeAll plan st [] m = m
 placeAll plan st (d ∷ ds) m = placeAll plan (allocate st d) ds (placeDeclaration (plan (length (st .ends))) st d m)
 
+-- the role of word 2, by whether subscripts are tested (A12)
+unfoldable pub savedRole : Bool → Role
+savedRole true = Role.saved
+savedRole false = Role.free
+
 -- of a sector that a program has not
 abbrev pub noPlan : Plan
 noPlan = record { pool = []; poolAt = 0 }
@@ -146,7 +177,7 @@ planAt st = record { pool = st .pool; poolAt = st .next }
 unfoldable pub plansFrom : Allocation → List Declaration → Stmts → List Plan
 plansFrom st [] main = planAt (finish st main) ∷ []
 plansFrom st (Declaration.item name item ∷ ds) main = plansFrom (allocate st (Declaration.item name item)) ds main
-plansFrom st (Declaration.array name size values ∷ ds) main = plansFrom (allocate st (Declaration.array name size values)) ds main
+plansFrom st (Declaration.array name size checked values ∷ ds) main = plansFrom (allocate st (Declaration.array name size checked values)) ds main
 plansFrom st (Declaration.procedure name accumulator locals body ∷ ds) main = plansFrom (allocate st (Declaration.procedure name accumulator locals body)) ds main
 plansFrom st (Declaration.nextSector ∷ ds) main = planAt st ∷ plansFrom (allocate st Declaration.nextSector) ds main
 
@@ -162,11 +193,15 @@ module _ (p : Program) where
   unfoldable pub planOf : ℕ → Plan
   planOf k = getD (plansFrom start (p .declarations) (p .main)) k noPlan
 
-  -- X at word 0 (A2), then the declarations; the main body and the last pool come last (A4, A8); nothing else is used (A6)
+  -- before anything is declared: X at word 0 (A2), and at word 2, with `.CHECKED`, the word that keeps A in a test (A12)
+  unfoldable pub front : List Role
+  front = placed (replicate memoryWords Role.free) 0 (Role.cell (CellId.named Id.x) 0 ∷ Role.free ∷ savedRole (p .checked) ∷ [])
+
+  -- the front, then the declarations; the main body and the last pool come last (A4, A8); nothing else is used (A6)
   unfoldable pub mapOf : List Role
   mapOf =
       let plan = planOf (length (declared .ends)) in
-      placed (placeAll planOf start (p .declarations) (placed (replicate memoryWords Role.free) 0 (Role.cell (CellId.named Id.x) 0 ∷ []))) (declared .next)
+      placed (placeAll planOf start (p .declarations) front) (declared .next)
       (fixedWords (frame plan (declared .next)) (mainWords (p .main) (declared .next)) ++ map Role.fixed (plan .pool))
 
   -- the image: the initial value of each word (A1)

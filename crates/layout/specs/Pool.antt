@@ -16,6 +16,8 @@ literalOf (Sym.memory opcode (Operand.literal v)) vs = v ∷ vs
 literalOf (Sym.through opcode n) vs = vs
 literalOf (Sym.jump z) vs = vs
 literalOf (Sym.return link) vs = vs
+literalOf (Sym.saved opcode) vs = vs
+literalOf Sym.stop vs = vs
 
 unfoldable pub literalsOf : List Sym → List ℕ
 literalsOf [] = []

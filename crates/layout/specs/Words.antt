@@ -1,5 +1,6 @@
 -- The words of each form, still symbolic (group W of docs/REFERENCE.md), and the address after a form that is emitted from an address on.
 use Prim.Native.Nat.{ℕ, suc, _+_}
+use mathlib.Core.Bool.{cond}
 use mathlib.Core.List.{List, [], _∷_}
 use mathlib.Core.Option.{Option, some, none}
 use lib.ListN.{length}
@@ -7,10 +8,11 @@ use Rattle.prelude.specs.Choice.{given}
 use Rattle.word.specs.Shift.{LGR, ARS, ARR, LGL, ALS, ALR, LRS, LLS}
 use Rattle.instruction.specs.Opcode.{ADD, ANA, CAS, DIV, ERA, IRS, JST, LDA, LDX, MPY, STA, SUB}
 use Rattle.instruction.specs.Slot.{ACA, AOA, CAL, CAR, CHS, CMA, CRA, CSA, HLT, IAB, ICA, ICL, ICR, NOP, SKP, SLN, SLZ, SMI, SNZ, SPL, SRC, SS1, SS2, SS3, SS4, SSC, SSM, SSP, SSR, SSS, SZE, TCA}
-use Rattle.tree.specs.Tree.{Id, Array, Operand, Subscript, Cell, Unary, Operator, Shift, Operation, Relation, Test, Bare, Expr, Term, Cond, Target, Stmt, Stmts}
+use Rattle.tree.specs.Tree.{Id, Array, Operand, Subscript, Cell, Unary, Operator, Shift, Operation, Relation, Test, Bare, Expr, Term, Cond, Target, Stmt, Stmts, lowest}
 
 -- a word to be emitted, its operand not yet an address: a generic instruction, by its slot; a shift; a memory reference to an integer, a constant or a literal;
--- one that goes indirectly through an array word or a procedure word, by its number among the globals; a jump to an address of code; a return through a link
+-- one that goes indirectly through an array word or a procedure word, by its number among the globals; a jump to an address of code; a return through a link;
+-- a memory reference to the word that keeps A while a subscript is tested; the HLT of such a test
 pub data Sym : Type 0 where
   generic : ℕ → Sym
   shift : ℕ → ℕ → Sym
@@ -18,6 +20,8 @@ pub data Sym : Type 0 where
   through : ℕ → ℕ → Sym
   jump : ℕ → Sym
   return : ℕ → Sym
+  saved : ℕ → Sym
+  stop : Sym
 
 -- one run of words after another. A definition of its own, so that a proof sees the two runs
 infixr 67 _⧺_
@@ -31,10 +35,26 @@ after ws at = at + length ws
 
 -- ---- Cells
 
--- of an element the LDX of its subscript, none for `#` (W2)
+-- the LDX of a subscript, none for `#` (W2)
+unfoldable pub loadWords : Subscript → List Sym
+loadWords (Subscript.by o) = Sym.memory LDX o ∷ []
+loadWords Subscript.hash = []
+
+-- the test of X as a subscript, its first half: A is kept, and X compared with -1; HLT if it is above (W19)
+unfoldable pub aboveWords : List Sym
+aboveWords = Sym.saved STA ∷ Sym.memory LDA (Operand.named Id.x) ∷ Sym.memory CAS (Operand.literal 65535) ∷ Sym.stop ∷ Sym.generic NOP ∷ []
+
+-- and its second: X compared with -size; HLT if it is below, else A is back (W19)
+unfoldable pub belowWords : ℕ → List Sym
+belowWords low = Sym.memory CAS (Operand.literal low) ∷ Sym.generic NOP ∷ Sym.generic SKP ∷ Sym.stop ∷ Sym.saved LDA ∷ []
+
+-- both halves, with the array's -size (W19)
+unfoldable pub testWords : Array → List Sym
+testWords a = aboveWords ⧺ belowWords (lowest a)
+
+-- of an element: its subscript in X, and the test of it if the array's subscripts are tested (W2, W19)
 unfoldable pub subscriptWords : Array → Subscript → List Sym
-subscriptWords a (Subscript.by o) = Sym.memory LDX o ∷ []
-subscriptWords a Subscript.hash = []
+subscriptWords a s = loadWords s ⧺ cond (a .checked) (testWords a) []
 
 -- what reaches a cell, before the instruction on it (W2)
 unfoldable pub reachWords : Cell → List Sym

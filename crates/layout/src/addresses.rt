@@ -3,6 +3,9 @@ pub const MEMORY_WORDS: usize = 16384;
 
 pub const SECTOR_WORDS: u16 = 512;
 
+// Keeps A while a subscript is tested (A12).
+pub const SAVED_WORD: u16 = 2;
+
 pub const FIRST_GLOBAL: u16 = 0o200;
 
 pub const GLOBAL_WORDS: u16 = 0o600;

@@ -58,7 +58,7 @@ module _ {A : Type 0} (cells : Id → Item → List A) (elements : ℕ → ℕ �
     from n [] a h = absurd (List·Memᴰ·not-nil h)
     from n (Declaration.item name item ∷ ds) a h =
         either (cells (Id.global n) item) (λ x. here n a (item-of n item a x)) (λ x. onward (n + wordsTaken item) n a (omega arith) (from (n + wordsTaken item) ds a x)) h
-    from n (Declaration.array name size values ∷ ds) a h =
+    from n (Declaration.array name size checked values ∷ ds) a h =
         either (elements n size) (λ x. here n a (element-of n size a x)) (λ x. onward (suc n) n a (omega arith) (from (suc n) ds a x)) h
     from n (Declaration.procedure name accumulator locals body ∷ ds) a h =
         either (localsBy cells n 0 locals) (λ x. here n a (subst (Of n) (sym (local-from n 0 locals a x .is)) refl)) (λ x. onward (suc n) n a (omega arith) (from (suc n) ds a x)) h
@@ -147,7 +147,7 @@ declared-apart n (Declaration.item name (Item.constant w) ∷ ds) c v h k =
     either ((CellId.named (Id.global n), w) ∷ []) (λ x. parted n (n + 1) c (omega arith) (subst (Of n) (sym (first-of c v w (Id.global n) x)) refl) (variable-from (n + 1) ds c h))
     (λ x. declared-apart (n + 1) ds c v h x) k
 declared-apart n (Declaration.item name (Item.compconstant w) ∷ ds) c v h k = declared-apart (n + 0) ds c v h k
-declared-apart n (Declaration.array name size values ∷ ds) c v h k =
+declared-apart n (Declaration.array name size checked values ∷ ds) c v h k =
     either (elementsIn n size) (λ x. parted n (suc n) c (omega arith) (element-in n size c x) (constant-from (suc n) ds (c, v) k)) (λ x. declared-apart (suc n) ds c v x k) h
 declared-apart n (Declaration.procedure name accumulator locals body ∷ ds) c v h k =
     either (localsBy itemVariables n 0 locals)

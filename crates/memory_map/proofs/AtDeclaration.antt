@@ -4,15 +4,15 @@ use mathlib.Core.Path.{_≡_, refl, sym, ap, _∙_, subst}
 use mathlib.Core.List.{List, [], _∷_, _++_, map, foldl, append-nil}
 use native.Mathlib.Omega.{arith}
 use native.Mathlib.Nat.{add-zero}
-use lib.ListN.{length, getD, replicate, length-append, length-map, length-replicate}
-use Rattle.tree.specs.Tree.{Id, CellId, Item, Stmts, Declaration, Program}
+use lib.ListN.{length, getD, length-append, length-map}
+use Rattle.tree.specs.Tree.{Item, Stmts, Declaration, Program}
 use Rattle.tree.specs.Symbols.{declare, declareItem, itemSymbol, wordsTaken}
 use Rattle.layout.specs.Words.{mainWords}
 use Rattle.layout.specs.Allocation.{Allocation, start, sectorOf, allocate, allocated, finish}
-use Rattle.layout.specs.Map.{Role, Plan, frame, fixedWords, placed, placeDeclaration, placeAll, noPlan, planAt, plansFrom, declared, finished, planOf, mapOf}
+use Rattle.layout.specs.Map.{Role, Plan, frame, fixedWords, placed, placeDeclaration, placeAll, noPlan, planAt, plansFrom, declared, finished, planOf, front, mapOf}
 use Rattle.parsing_laws.specs.WellFormed.{Kind, kindsOf, DeclarationOk, WellFormed}
-use Rattle.memory_map.proofs.Placed.{placed-size}
-use Rattle.memory_map.proofs.Room.{FrontOk, front, kinds-on, Fits, next-follows, room, all-fits}
+use Rattle.memory_map.proofs.Placed.{front-size}
+use Rattle.memory_map.proofs.Room.{FrontOk, front as front-ok, kinds-on, Fits, next-follows, room, all-fits}
 use Rattle.memory_map.proofs.DeclarationWords.{fixed-length}
 use Rattle.memory_map.proofs.Untouched.{FreeSpace, Same, lay-code, laid, outside-on}
 
@@ -23,7 +23,7 @@ unfolding allocate declareItem declare itemSymbol wordsTaken kindsOf
 words-on st (Declaration.item name Item.integer) = refl
 words-on st (Declaration.item name (Item.constant v)) = refl
 words-on st (Declaration.item name (Item.compconstant v)) = refl
-words-on st (Declaration.array name size values) = refl
+words-on st (Declaration.array name size checked values) = refl
 words-on st (Declaration.procedure name accumulator locals body) = refl
 words-on st Declaration.nextSector = sym (add-zero (st .scope .taken))
 
@@ -32,28 +32,28 @@ unfolding kindsOf
 few-on st ks (Declaration.item name Item.integer) few h = h .1
 few-on st ks (Declaration.item name (Item.constant v)) few h = h .1
 few-on st ks (Declaration.item name (Item.compconstant v)) few h = h .1
-few-on st ks (Declaration.array name size values) few h = omega (arith, h .0)
+few-on st ks (Declaration.array name size checked values) few h = omega (arith, h .0)
 few-on st ks (Declaration.procedure name accumulator locals body) few h = omega (arith, h .0)
 few-on st ks Declaration.nextSector few h = omega arith
 
 low-on : (st : Allocation) (ks : List Kind) (d : Declaration) → DeclarationOk st ks d → 512 * sectorOf st ≤ st .next → 512 * sectorOf (allocate st d) ≤ allocate st d .next
 unfolding allocate
 low-on st ks (Declaration.item name item) h l = l
-low-on st ks (Declaration.array name size values) h l = l
+low-on st ks (Declaration.array name size checked values) h l = l
 low-on st ks (Declaration.procedure name accumulator locals body) h l = omega arith
 low-on st ks Declaration.nextSector h l = omega (arith, length-append (st .ends) (st .next ∷ []))
 
 sectors-on : (st : Allocation) (ks : List Kind) (d : Declaration) → DeclarationOk st ks d → sectorOf st ≤ 31 → sectorOf (allocate st d) ≤ 31
 unfolding allocate
 sectors-on st ks (Declaration.item name item) h l = l
-sectors-on st ks (Declaration.array name size values) h l = l
+sectors-on st ks (Declaration.array name size checked values) h l = l
 sectors-on st ks (Declaration.procedure name accumulator locals body) h l = l
 sectors-on st ks Declaration.nextSector h l = omega (arith, next-follows st h .1, length-append (st .ends) (st .next ∷ []))
 
 top-on : (st : Allocation) (d : Declaration) → st .array ≤ 16383 → allocate st d .array ≤ 16383
 unfolding allocate
 top-on st (Declaration.item name item) l = l
-top-on st (Declaration.array name size values) l = omega arith
+top-on st (Declaration.array name size checked values) l = omega arith
 top-on st (Declaration.procedure name accumulator locals body) l = l
 top-on st Declaration.nextSector l = l
 
@@ -81,7 +81,7 @@ plans-on : (all : ℕ → Plan) (st : Allocation) (d : Declaration) (ds : List D
     → (i : ℕ) → all (length (allocate st d .ends) + i) ≡ getD (plansFrom (allocate st d) ds main) i noPlan
 unfolding allocate plansFrom
 plans-on all st (Declaration.item name item) ds main h i = h i
-plans-on all st (Declaration.array name size values) ds main h i = h i
+plans-on all st (Declaration.array name size checked values) ds main h i = h i
 plans-on all st (Declaration.procedure name accumulator locals body) ds main h i = h i
 plans-on all st Declaration.nextSector ds main h i =
     let e : length (st .ends ++ (st .next ∷ [])) + i ≡ length (st .ends) + suc i = omega (arith, length-append (st .ends) (st .next ∷ [])) in
@@ -167,23 +167,19 @@ module _ (p : Program) where
 
   -- ---- The beginning
 
-  abbrev pub empty : List Role
-  empty = placed (replicate 16384 Role.free) 0 (Role.cell (CellId.named Id.x) 0 ∷ [])
-
-  pub begin : WellFormed p → Here p start [] (p .declarations) empty
+  pub begin : WellFormed p → Here p start [] (p .declarations) (front p)
   unfolding mapOf declared finished allocated planOf
   begin w =
       let l = all-fits (p .declarations) (p .main) (w .fits) in
-      let r = length-replicate 16384 Role.free in
       record {
-        ok = front (w .declarations);
-        room = record { low = omega arith; sectors = omega arith; top = omega arith; few = omega arith; fits = room (p .declarations) start [] (p .main) (front (w .declarations)) l };
+        ok = front-ok (w .declarations);
+        room = record { low = omega arith; sectors = omega arith; top = omega arith; few = omega arith; fits = room (p .declarations) start [] (p .main) (front-ok (w .declarations)) l };
         words = refl;
         last = l;
         plans = λ i. ap (λ (n : ℕ). getD (plansFrom start (p .declarations) (p .main)) n noPlan) (omega arith);
-        size = placed-size (replicate 16384 Role.free) 0 (Role.cell (CellId.named Id.x) 0 ∷ []) (omega arith) ∙ r;
+        size = front-size p;
         is = refl;
       }
 
 pub map-length : (p : Program) → WellFormed p → length (mapOf p) ≡ 16384
-map-length p w = kept p (p .declarations) start [] (empty p) (begin p w) .size
+map-length p w = kept p (p .declarations) start [] (front p) (begin p w) .size

@@ -1,13 +1,15 @@
 -- Words at home: where each cell and each link of a program belongs, and that placing words that belong there keeps all of a map at home.
 use Prim.Native.Nat.{ℕ, zero, suc, _+_, _-_, _≤_}
 use mathlib.Core.Path.{_≡_, refl, sym, subst, _∙_}
+use mathlib.Core.Bool.{Bool, true, false}
 use mathlib.Core.List.{List, [], _∷_, _++_, map}
 use native.Mathlib.Nat.{add-zero}
 use native.Mathlib.Omega.{arith}
 use lib.ListN.{length, getD, take, drop, replicate, length-append, length-drop}
 use lib.Seq.{length-take-le}
 use Rattle.tree.specs.Tree.{Id, CellId, Item, Name}
-use Rattle.layout.specs.Map.{Role, placed, itemWords, localItems, elements}
+use Rattle.layout.specs.Words.{Sym}
+use Rattle.layout.specs.Map.{Frame, Role, roleOf, fixedWords, savedRole, placed, itemWords, localItems, elements}
 use Rattle.tree.specs.Symbols.{itemValue, wordsTaken}
 
 -- for each number of a global: its array's element 0 or its procedure's first local; its procedure's link
@@ -22,9 +24,28 @@ homeOf f (CellId.element a v) = f a .0 - (65536 - v)
 
 abbrev pub AtHome : Spots → ℕ → Role → Type 0
 AtHome f k (Role.fixed w) = Unit {0}
+AtHome f k Role.stop = Unit {0}
 AtHome f k (Role.cell i v) = k ≡ homeOf f i
 AtHome f k (Role.link n) = k ≡ f n .1
+AtHome f k Role.saved = Unit {0}
 AtHome f k Role.free = Unit {0}
+
+-- code is at home anywhere, and so is the word for A
+code-home : (f : Spots) (g : Frame) (w : Sym) (k : ℕ) → AtHome f k (roleOf g w)
+unfolding roleOf
+code-home f g (Sym.generic slot) k = tt
+code-home f g (Sym.shift kind n) k = tt
+code-home f g (Sym.memory code o) k = tt
+code-home f g (Sym.through code n) k = tt
+code-home f g (Sym.jump z) k = tt
+code-home f g (Sym.return link) k = tt
+code-home f g (Sym.saved code) k = tt
+code-home f g Sym.stop k = tt
+
+pub saved-home : (f : Spots) (checked : Bool) (k : ℕ) → AtHome f k (savedRole checked)
+unfolding savedRole
+saved-home f true k = tt
+saved-home f false k = tt
 
 -- all words from k on
 pub data Homes (f : Spots) : ℕ → List Role → Type 0 where
@@ -54,9 +75,14 @@ module _ {f : Spots} where
   homes-drop (suc n) none = none
   homes-drop {a} (suc n) (more {ws = ws} h hs) = subst (λ (k : ℕ). Homes f k (drop n ws)) (shift a n) (homes-drop n hs)
 
-  pub homes-fixed : {A : Type 0} (g : A → ℕ) (ws : List A) (k : ℕ) → Homes f k (map (λ (w : A). Role.fixed (g w)) ws)
-  homes-fixed g [] k = none
-  homes-fixed g (w ∷ ws) k = more tt (homes-fixed g ws (suc k))
+  pub homes-pool : (vs : List ℕ) (k : ℕ) → Homes f k (map Role.fixed vs)
+  homes-pool [] k = none
+  homes-pool (v ∷ vs) k = more tt (homes-pool vs (suc k))
+
+  pub homes-code : (g : Frame) (ws : List Sym) (k : ℕ) → Homes f k (fixedWords g ws)
+  unfolding fixedWords
+  homes-code g [] k = none
+  homes-code g (w ∷ ws) k = more (code-home f g w k) (homes-code g ws (suc k))
 
   pub homes-free : (n k : ℕ) → Homes f k (replicate n Role.free)
   homes-free zero k = none

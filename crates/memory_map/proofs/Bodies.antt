@@ -9,7 +9,8 @@ use Rattle.tree.specs.Tree.{Id, CellId, Array, Operand, Name, Item, Stmts, Decl
 use Rattle.layout.specs.Words.{Sym, after, procedureWords, mainWords}
 use Rattle.layout.specs.Pool.{literalsOf}
 use Rattle.layout.specs.Allocation.{allocated, localWords, linkOf}
-use Rattle.layout.specs.Map.{Frame, addressOf, wordOf, Role, frame, planOf, Home, mapAt}
+use Rattle.layout.specs.Map.{Frame, addressOf, roleOf, Role, savedRole, frame, planOf, Home, mapAt}
+use Rattle.layout.specs.Addresses.{savedWord}
 use Rattle.tree.specs.Variables.{variablesOf}
 use Rattle.parsing_laws.specs.WellFormed.{Kind, Context, IdOk, kindsOf}
 use Rattle.memory_map.specs.Laid.{Map, Sound, Direct, ArrayWord, ProcedureWord}
@@ -17,7 +18,7 @@ use Rattle.memory_map.specs.Laid.{Map, Sound, Direct, ArrayWord, Procedu
 -- the words of a frame stand in the map from a on
 pub data Fixed (M : Map) (f : Frame) : ℕ → List Sym → Type 0 where
   none : {a : ℕ} → Fixed M f a []
-  word : {a : ℕ} {w : Sym} {ws : List Sym} → M a ≡ Role.fixed (wordOf f w) → Fixed M f (suc a) ws → Fixed M f a (w ∷ ws)
+  word : {a : ℕ} {w : Sym} {ws : List Sym} → M a ≡ roleOf f w → Fixed M f (suc a) ws → Fixed M f a (w ∷ ws)
 
 -- an address that code in a sector can refer to
 abbrev pub Near : ℕ → ℕ → Type 0
@@ -37,8 +38,9 @@ pub record Body (M : Map) (f : Frame) (x : Context) (a : ℕ) (ws : List Sym) : 
 -- everything of a program
 pub record Placement (p : Program) : Type 0 where
   pub sound : Sound (mapAt p)
+  pub saved-at : mapAt p savedWord ≡ savedRole (p .checked)
   pub homes : (i : CellId) → List·Memᴰ i (variablesOf p) → Home p i
-  pub arrays : (r : Array) → getD (kindsOf (p .declarations)) (r .number) Kind.none ≡ Kind.array (r .size) → ArrayWord (mapAt p) r (0o200 + r .number)
+  pub arrays : (r : Array) → getD (kindsOf (p .declarations)) (r .number) Kind.none ≡ Kind.array (r .size) (r .checked) → ArrayWord (mapAt p) r (0o200 + r .number)
   pub words : (n : ℕ) → getD (kindsOf (p .declarations)) n Kind.none ≡ Kind.procedure → ProcedureWord (mapAt p) n (0o200 + n)
   pub procedures : (before : List Declaration) (name : Name) (accumulator : Bool) (locals : List (Name × Item)) (body : Stmts) (more : List Declaration)
       → p .declarations ≡ before ++ (Declaration.procedure name accumulator locals body ∷ more)

@@ -9,7 +9,7 @@ use Rattle.tree.specs.Tree.{Id, CellId, Name, Item}
 use Rattle.tree.specs.Symbols.{Scope, itemSymbol, wordsTaken, declare, declareItem, localScope, itemValue}
 use Rattle.layout.specs.Allocation.{Allocation, localWords}
 use Rattle.layout.specs.Words.{Sym}
-use Rattle.layout.specs.Map.{Role, Frame, wordOf, fixedWords, itemWords, localItems, elements}
+use Rattle.layout.specs.Map.{Role, Frame, roleOf, fixedWords, itemWords, localItems, elements}
 use Rattle.parsing_laws.specs.WellFormed.{itemKinds}
 use Rattle.memory_map.specs.Laid.{Map}
 use Rattle.memory_map.proofs.Bodies.{Fixed, none, word}
@@ -85,7 +85,7 @@ local-at p n ((name, Item.compconstant v) ∷ ls) j h = local-as (n + 0 + j) (n 
 
 pub fixed-length : (f : Frame) (ws : List Sym) → length (fixedWords f ws) ≡ length ws
 unfolding fixedWords
-fixed-length f ws = length-map ws (λ w. Role.fixed (wordOf f w))
+fixed-length f ws = length-map ws (roleOf f)
 
 pub fixed-from : (M : Map) (f : Frame) (ws : List Sym) (a : ℕ) → ((j : ℕ) → j < length ws → M (a + j) ≡ getD (fixedWords f ws) j Role.free) → Fixed M f a ws
 unfolding fixedWords

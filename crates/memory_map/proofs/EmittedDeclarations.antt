@@ -67,9 +67,9 @@ module _ (p : Program) (st : Allocation) (ks : List Kind) (ds : List Declaration
       sym (placed-stored m (0o200 + st .scope .taken) (itemWords i item) (omega (arith, item-length i item, h .ok .0 .1, h .size))
       ∙ ap (stored (map initial m) (0o200 + st .scope .taken)) (item-values i item))
 
-  array-emitted : (name : Name) (size : ℕ) (values : List ℕ) → Here p st ks (Declaration.array name size values ∷ ds) m → Emits (Declaration.array name size values)
+  array-emitted : (name : Name) (size : ℕ) (checked : Bool) (values : List ℕ) → Here p st ks (Declaration.array name size checked values ∷ ds) m → Emits (Declaration.array name size checked values)
   unfolding emitDeclaration placeDeclaration stored
-  array-emitted name size values h =
+  array-emitted name size checked values h =
       let number = st .scope .taken in
       let word = Role.fixed (0o40000 + st .array) ∷ [] in
       let words = elements number (65536 - size) size values in
@@ -139,6 +139,6 @@ module _ (p : Program) (st : Allocation) (ks : List Kind) (ds : List Declaration
 
   pub declaration-emitted : (d : Declaration) → Here p st ks (d ∷ ds) m → Emits d
   declaration-emitted (Declaration.item name item) h = item-emitted name item h
-  declaration-emitted (Declaration.array name size values) h = array-emitted name size values h
+  declaration-emitted (Declaration.array name size checked values) h = array-emitted name size checked values h
   declaration-emitted (Declaration.procedure name accumulator locals body) h = procedure-emitted name accumulator locals body h
   declaration-emitted Declaration.nextSector h = sector-emitted h

@@ -1,23 +1,25 @@
 -- A program emitted in the order of the code has the image of its map.
 use Prim.Native.Nat.{ℕ, _+_, _≤_}
-use mathlib.Core.Path.{_≡_, sym, ap, _∙_, subst}
+use mathlib.Core.Path.{_≡_, refl, sym, ap, _∙_, subst}
+use mathlib.Core.Bool.{Bool, true, false}
 use mathlib.Core.List.{List, [], _∷_, _++_, map, map-append, foldl}
 use native.Mathlib.Omega.{arith}
-use lib.ListN.{length, set, replicate, length-map, length-replicate}
-use Rattle.tree.specs.Tree.{Id, CellId, Declaration, Program}
+use lib.ListN.{length, replicate, length-map}
+use Rattle.tree.specs.Tree.{Declaration, Program}
 use Rattle.layout.specs.Words.{mainWords}
 use Rattle.layout.specs.Allocation.{Allocation, start, allocate, allocated, finish}
-use Rattle.layout.specs.Map.{Role, initial, frame, fixedWords, placeAll, planOf, mapOf, imageOf}
+use Rattle.layout.specs.Map.{Role, initial, savedRole, frame, fixedWords, placeAll, planOf, front, mapOf, imageOf}
 use Rattle.parsing_laws.specs.WellFormed.{Kind, kindsOf, WellFormed}
 use Rattle.memory_map.specs.MapLaws.{Extends}
 use Rattle.parsing_laws.proofs.Parsed.Programs.{well-formed}
 use Rattle.memory_map.proofs.PoolLaws.{same}
+use Rattle.memory_map.proofs.Placed.{frontWords, front-fits}
 use Rattle.memory_map.proofs.DeclarationWords.{fixed-length}
-use Rattle.memory_map.proofs.AtDeclaration.{Here, placing, next, last-pool, tail, tail-length, empty, begin}
+use Rattle.memory_map.proofs.AtDeclaration.{Here, placing, next, last-pool, tail, tail-length, begin}
 use Rattle.memory_map.proofs.SectorPools.{closing, poolOf, poolFrom}
 use Rattle.layout.specs.Emission.{stored, emitDeclarations, emitMain, emitProgram}
 use Rattle.memory_map.specs.EmittedImage.{EmittedImage}
-use Rattle.memory_map.proofs.Images.{placed-stored, stored-append, free-words, zero-again}
+use Rattle.memory_map.proofs.Images.{placed-stored, stored-append, free-words, zeros-again}
 use Rattle.memory_map.proofs.GrowingPool.{emitted}
 use Rattle.memory_map.proofs.EmittedDeclarations.{fixed-values, few-literals, declaration-emitted}
 
@@ -69,15 +71,21 @@ module _ (p : Program) where
 
   -- ---- From the start
 
-  start-image : map initial (empty p) ≡ replicate 16384 0
-  unfolding stored
+  saved-value : (checked : Bool) → initial (savedRole checked) ≡ 0
+  unfolding savedRole
+  saved-value true = refl
+  saved-value false = refl
+
+  start-image : map initial (front p) ≡ replicate 16384 0
+  unfolding front
   start-image =
-      placed-stored (replicate 16384 Role.free) 0 (Role.cell (CellId.named Id.x) 0 ∷ []) (omega (arith, length-replicate 16384 Role.free))
-      ∙ ap (λ (l : List ℕ). set l 0 0) (free-words 16384) ∙ zero-again 16384
+      placed-stored (replicate 16384 Role.free) 0 (frontWords p) (front-fits p)
+      ∙ ap (λ (v : ℕ). stored (map initial (replicate 16384 Role.free)) 0 (0 ∷ 0 ∷ v ∷ [])) (saved-value (p .checked))
+      ∙ ap (λ (l : List ℕ). stored l 0 (0 ∷ 0 ∷ 0 ∷ [])) (free-words 16384) ∙ zeros-again 16384 0 3
 
   program-emitted : WellFormed p → emitProgram ends p (replicate 16384 0) ≡ imageOf p
   unfolding emitProgram imageOf allocated
-  program-emitted w = ap (emitProgram ends p) (sym start-image) ∙ all-emitted (p .declarations) start [] (empty p) (begin p w)
+  program-emitted w = ap (emitProgram ends p) (sym start-image) ∙ all-emitted (p .declarations) start [] (front p) (begin p w)
 
 pub emitted-image : EmittedImage
 unfolding EmittedImage

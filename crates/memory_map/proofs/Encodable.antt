@@ -1,7 +1,7 @@
 -- Each symbolic word of a well-formed part can be emitted: its instruction is one, and what it refers to is in reach.
 use Prim.Native.Nat.{ℕ, zero, suc, _≤_, _<_}
 use mathlib.Core.Path.{_≡_, refl, sym, subst}
-use mathlib.Core.Bool.{true}
+use mathlib.Core.Bool.{Bool, true, false, cond}
 use mathlib.Core.Logic.{_⊎_, inl, inr}
 use mathlib.Core.List.{List, [], _∷_, List·Memᴰ}
 use native.Mathlib.Nat.{le-add-right}
@@ -10,7 +10,7 @@ use lib.Dec.{T}
 use lib.ListN.{length, getD}
 use Rattle.instruction.specs.Opcode.{ADD, ANA, CAS, DIV, ERA, IRS, JST, LDA, LDX, MPY, STA, SUB, opcodes}
 use Rattle.word.specs.Shift.{LRS, LLS}
-use Rattle.instruction.specs.Slot.{CRA, IAB}
+use Rattle.instruction.specs.Slot.{CRA, IAB, NOP, SKP}
 use Rattle.instruction.specs.Table.{shortKinds, longKinds, generics, tableOf}
 use Rattle.instruction.specs.Encode.{shiftWord, Encodes}
 use Rattle.instruction.specs.declared.Instruction.the-variants.{Shift}
@@ -18,9 +18,9 @@ use Rattle.instruction.specs.Decode.{findWord, genericOf, isIn, shiftOf, memory
 use Rattle.instruction.proofs.Members.{in-member}
 use Rattle.instruction.proofs.Rows.{isAt}
 use Rattle.tree.specs.Tree as tree
-use Rattle.tree.specs.Tree.{Id, Array, Operand, Subscript, Cell, Unary, Operator, Operation, Test, Bare, Expr, Term, Cond, Target, Stmt, Stmts}
-use Rattle.layout.specs.Words.{Sym, _⧺_, after, subscriptWords, reachWords, instructionWord, cellWords, plainWords, unaryWords, unariesWords, Operated, operatorForm, shiftKind, operationWords, operationsWords, testSlot, bareSlot, Control, controls, controlWord, controlWords, exprEnd, termEnd, condEnd, targetCell, stmtEnd, stmtsEnd, exprWords, termWords, condWords, stmtWords, stmtsWords}
-use Rattle.parsing_laws.specs.WellFormed.{Kind, Context, IdOk, OperandOk, ArrayOk, ProcedureOk, CellOk, OperationsOk, TermOk, CondOk, ExprBy, ExprOk, TargetOk, StmtBy, StmtsBy, IsEmpty, StmtOk}
+use Rattle.tree.specs.Tree.{Id, Array, Operand, Subscript, Cell, Unary, Operator, Operation, Test, Bare, Expr, Term, Cond, Target, Stmt, Stmts, lowest}
+use Rattle.layout.specs.Words.{Sym, _⧺_, after, loadWords, aboveWords, belowWords, testWords, subscriptWords, reachWords, instructionWord, cellWords, plainWords, unaryWords, unariesWords, Operated, operatorForm, shiftKind, operationWords, operationsWords, testSlot, bareSlot, Control, controls, controlWord, controlWords, exprEnd, termEnd, condEnd, targetCell, stmtEnd, stmtsEnd, exprWords, termWords, condWords, stmtWords, stmtsWords}
+use Rattle.parsing_laws.specs.WellFormed.{Kind, Context, IdOk, OperandOk, ArrayOk, ProcedureOk, SubscriptOk, CellOk, OperationsOk, TermOk, CondOk, ExprBy, ExprOk, TargetOk, StmtBy, StmtsBy, IsEmpty, StmtOk}
 use Rattle.layout_laws.proofs.Spans.{Span, span-expr, span-cond, span-stmt, span-stmts, span-end, along}
 
 -- an opcode of the instruction table
@@ -42,6 +42,8 @@ WordOk x lo hi (Sym.memory code o) = OpcodeOk code × OperandOk x o
 WordOk x lo hi (Sym.through code n) = OpcodeOk code × (n < length (x .globals))
 WordOk x lo hi (Sym.jump z) = (lo ≤ z) × (z ≤ hi)
 WordOk x lo hi (Sym.return link) = (lo ≤ link) × (link ≤ hi)
+WordOk x lo hi (Sym.saved code) = OpcodeOk code
+WordOk x lo hi Sym.stop = Unit {0}
 
 pub data AllOk (x : Context) (lo hi : ℕ) : List Sym → Type 0 where
   none : AllOk x lo hi []
@@ -64,7 +66,7 @@ grows {a} {b} {ws} p = subst (λ (n : ℕ). a ≤ n) (sym (span-end p)) (le-add-
 
 module _ (x : Context) (lo hi : ℕ) where
   array-among : (r : Array) → ArrayOk x r → r .number < length (x .globals)
-  array-among r h = among (x .globals) (r .number) (Kind.array (r .size)) (λ e. let z : _≡_ {A = ℕ} 0 1 = cc in omega arith) h
+  array-among r h = among (x .globals) (r .number) (Kind.array (r .size) (r .checked)) (λ e. let z : _≡_ {A = ℕ} 0 1 = cc in omega arith) h
 
   procedure-among : (p : ℕ) → ProcedureOk x p → p < length (x .globals)
   procedure-among p h = among (x .globals) p Kind.procedure (λ e. let z : _≡_ {A = ℕ} 0 1 = cc in omega arith) h
@@ -72,11 +74,36 @@ module _ (x : Context) (lo hi : ℕ) where
   abbrev A : List Sym → Type 0
   A ws = AllOk x lo hi ws
 
+  lda : OpcodeOk LDA
+  lda = plain-code LDA refl
+
+  sta : OpcodeOk STA
+  sta = plain-code STA refl
+
+  cas : OpcodeOk CAS
+  cas = plain-code CAS refl
+
+  ldx : OpcodeOk LDX
+  ldx = inr refl
+
+  loading : (s : Subscript) → SubscriptOk x s → A (loadWords s)
+  unfolding loadWords
+  loading (Subscript.by o) h = word {w = Sym.memory LDX o} (ldx, h) none
+  loading Subscript.hash h = none
+
+  testing : (r : Array) (checked : Bool) → A (cond checked (testWords r) [])
+  unfolding testWords aboveWords belowWords _⧺_ isAt decodeDef genericOf findWord generics shiftOf memoryOf tableOf
+  testing r true =
+      word {w = Sym.saved STA} sta (word {w = Sym.memory LDA (Operand.named Id.x)} (lda, tt)
+      (word {w = Sym.memory CAS (Operand.literal 65535)} (cas, omega arith) (word {w = Sym.stop} tt (word {w = Sym.generic NOP} tt
+      (word {w = Sym.memory CAS (Operand.literal (lowest r))} (cas, omega arith) (word {w = Sym.generic NOP} tt (word {w = Sym.generic SKP} tt
+      (word {w = Sym.stop} tt (word {w = Sym.saved LDA} lda none)))))))))
+  testing r false = none
+
   reaching : (c : Cell) → CellOk x c → A (reachWords c)
   unfolding reachWords subscriptWords
   reaching (Cell.plain o) h = none
-  reaching (Cell.item r (Subscript.by o)) h = word {w = Sym.memory LDX o} (inr refl, h .1) none
-  reaching (Cell.item r Subscript.hash) h = none
+  reaching (Cell.item r s) h = both (loading s (h .1)) (testing r (r .checked))
 
   order : (code : ℕ) (c : Cell) → OpcodeOk code → CellOk x c → WordOk x lo hi (instructionWord code c)
   unfolding instructionWord
@@ -189,9 +216,6 @@ module _ (x : Context) (lo hi : ℕ) where
   call : (p : ℕ) → ProcedureOk x p → WordOk x lo hi (Sym.through JST p)
   call p h = (plain-code JST refl, procedure-among p h)
 
-  lda : OpcodeOk LDA
-  lda = plain-code LDA refl
-
   -- ---- Forms, with the expressions in them
 
   module _ (P : Expr → Type 0) (inner : (e : Expr) (a : ℕ) → P e → lo ≤ a → exprEnd e a ≤ hi → A (exprWords e a)) where
@@ -209,7 +233,7 @@ module _ (x : Context) (lo hi : ℕ) where
     condition (Cond.relation r e c) a z h l m n o =
         let g = grows (span-expr e a) in
         both (inner e a (h .0) l (omega arith))
-        (both (cell CAS c (plain-code CAS refl) (h .1)) (control-words _ z (controls r) (omega arith) m n o))
+        (both (cell CAS c cas (h .1)) (control-words _ z (controls r) (omega arith) m n o))
     condition (Cond.test t e) a z h l m n o = both (inner e a h l (omega arith)) (word {w = Sym.generic (testSlot t)} (test-slot t) (word {w = Sym.jump z} (n, o) none))
     condition (Cond.bare b) a z h l m n o = word {w = Sym.generic (bareSlot b)} (bare-slot b) (word {w = Sym.jump z} (n, o) none)
 
@@ -235,17 +259,11 @@ module _ (x : Context) (lo hi : ℕ) where
   target (Target.integer i) h = h
   target (Target.item a s) h = h
 
-  sta : OpcodeOk STA
-  sta = plain-code STA refl
-
   counter : (code : ℕ) (i : Id) → OpcodeOk code → IdOk x i → WordOk x lo hi (Sym.memory code (Operand.named i))
   counter code i k h = (k, h)
 
   irs : OpcodeOk IRS
   irs = plain-code IRS refl
-
-  ldx : OpcodeOk LDX
-  ldx = inr refl
 
   module _ (P : Expr → Type 0) (expr : (e : Expr) (a : ℕ) → P e → lo ≤ a → exprEnd e a ≤ hi → A (exprWords e a))
       (Q : Stmt → Type 0) (inner : (s : Stmt) (a : ℕ) → Q s → lo ≤ a → stmtEnd s a ≤ hi → A (stmtWords s a)) where

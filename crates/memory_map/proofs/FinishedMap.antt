@@ -64,7 +64,7 @@ module _ (p : Program) (st : Allocation) (ks : List Kind) (ds : List Declaration
 
   -- ---- An array
 
-  module _ (name : Name) (size : ℕ) (values : List ℕ) (h : Here p st ks (Declaration.array name size values ∷ ds) m) where
+  module _ (name : Name) (size : ℕ) (checked : Bool) (values : List ℕ) (h : Here p st ks (Declaration.array name size checked values ∷ ds) m) where
     abbrev number : ℕ
     number = st .scope .taken
 
@@ -76,12 +76,12 @@ module _ (p : Program) (st : Allocation) (ks : List Kind) (ds : List Declaration
     element-at j l =
         let g = lay-global st (h .room) m (h .size) (Role.fixed (0o40000 + st .array) ∷ []) (omega (arith, h .ok .0 .0)) in
         let e : length (elements number (65536 - size) size values) ≡ size = elements-length number (65536 - size) size values in
-        stays (Declaration.array name size values) h (st .array - size + j) (Outside.array (omega arith))
+        stays (Declaration.array name size checked values) h (st .array - size + j) (Outside.array (omega arith))
         ∙ placed-in (placed m (0o200 + number) (Role.fixed (0o40000 + st .array) ∷ [])) (st .array - size) (elements number (65536 - size) size values)
         (omega (arith, array-low, h .room .top, g .size)) j (omega arith)
         ∙ elements-at number (65536 - size) size values j l
 
-    pub array-word : ArrayWord (mapAt p) (record { number = number; size = size }) (0o200 + number)
+    pub array-word : ArrayWord (mapAt p) (record { number = number; size = size; checked = checked }) (0o200 + number)
     unfolding placeDeclaration allocate declare wordsTaken
     array-word =
         let few : number < 384 = h .ok .0 .0 in
@@ -94,8 +94,9 @@ module _ (p : Program) (st : Allocation) (ks : List Kind) (ds : List Declaration
         let one : (0o40000 + st .array) / 0o40000 % 2 ≡ 1 = omega arith in
         record {
           below = omega arith;
+          small = most;
           word = 0o40000 + st .array;
-          here = stays (Declaration.array name size values) h (0o200 + number) (Outside.global (omega arith))
+          here = stays (Declaration.array name size checked values) h (0o200 + number) (Outside.global (omega arith))
               ∙ placed-before (placed m (0o200 + number) (Role.fixed (0o40000 + st .array) ∷ [])) (st .array - size) (elements number (65536 - size) size values)
               (omega (arith, g .size)) (0o200 + number) (omega arith)
               ∙ placed-first m (0o200 + number) (Role.fixed (0o40000 + st .array)) [] (omega (arith, h .size));
@@ -103,7 +104,7 @@ module _ (p : Program) (st : Allocation) (ks : List Kind) (ds : List Declaration
           tagged = eq-eqb ((0o40000 + st .array) / 0o40000 % 2) 1 one;
           initial = λ v. getD values (v - (65536 - size)) 0;
           elements = λ v b.
-              let r = inside-bounds (record { number = number; size = size }) v b in
+              let r = inside-bounds (record { number = number; size = size; checked = checked }) v b in
               let lo : 65536 - size ≤ v = r .0 in
               let hi : v < 65536 = r .1 in
               let j : ℕ = v - (65536 - size) in

@@ -10,7 +10,7 @@ use lib.Seq.{take-all}
 use Rattle.tree.specs.Tree.{Id, Operand}
 use Rattle.layout.specs.Words.{Sym}
 use Rattle.layout.specs.Pool.{literalOf, literalsOf, indexOf, added, addedAll}
-use Rattle.layout.specs.Map.{addressOf, reference, wordOf, initial, fixedWords}
+use Rattle.layout.specs.Map.{Frame, addressOf, reference, wordOf, roleOf, initial, fixedWords}
 use Rattle.memory_map.specs.MapLaws.{Among, Extends}
 use Rattle.memory_map.proofs.PoolLaws.{joined, added-all-end, index-stays, all-among}
 use Rattle.layout.specs.Emission.{Emitted, Bases, frameOf, nextAddress, withWord, withLiteral, withLiterals, emitWord, emitAll, stored}
@@ -25,10 +25,24 @@ pooled-on pool (Sym.memory code (Operand.literal v)) vs = refl
 pooled-on pool (Sym.through code n) vs = refl
 pooled-on pool (Sym.jump z) vs = refl
 pooled-on pool (Sym.return link) vs = refl
+pooled-on pool (Sym.saved code) vs = refl
+pooled-on pool Sym.stop vs = refl
 
 next-address : (at : ℕ) → at < 65535 → nextAddress at ≡ suc at
 unfolding nextAddress
 next-address at h = rw (lt-ltb at 65535 h)
+
+-- the word that a role has in the image
+role-value : (f : Frame) (w : Sym) → initial (roleOf f w) ≡ wordOf f w
+unfolding roleOf wordOf
+role-value f (Sym.generic slot) = refl
+role-value f (Sym.shift kind n) = refl
+role-value f (Sym.memory code o) = refl
+role-value f (Sym.through code n) = refl
+role-value f (Sym.jump z) = refl
+role-value f (Sym.return link) = refl
+role-value f (Sym.saved code) = refl
+role-value f Sym.stop = refl
 
 module _ (b : Bases) (F : List ℕ) (few : length F ≤ 512) where
   -- a pool that the finished one begins with is never cut
@@ -56,11 +70,13 @@ module _ (b : Bases) (F : List ℕ) (few : length F ≤ 512) where
   word-stays pool (Sym.through code n) x = refl
   word-stays pool (Sym.jump z) x = refl
   word-stays pool (Sym.return link) x = refl
+  word-stays pool (Sym.saved code) x = refl
+  word-stays pool Sym.stop x = refl
 
   one-word : (e : Emitted) (w : Sym) → Extends (addedAll (e .pool) (literalOf w [])) F → e .next < 65535
-      → emitWord b e w ≡ record { image = set (e .image) (e .next) (wordOf (frameOf b F) w); next = suc (e .next); pool = addedAll (e .pool) (literalOf w []) }
+      → emitWord b e w ≡ record { image = set (e .image) (e .next) (initial (roleOf (frameOf b F) w)); next = suc (e .next); pool = addedAll (e .pool) (literalOf w []) }
   unfolding emitWord withWord
-  one-word e w x h = rw (literals-kept (e .pool) (literalOf w []) x, word-stays (e .pool) w x, next-address (e .next) h)
+  one-word e w x h = rw (literals-kept (e .pool) (literalOf w []) x, word-stays (e .pool) w x, next-address (e .next) h, role-value (frameOf b F) w)
 
   pub emitted : (ws : List Sym) (e : Emitted) → Extends (addedAll (e .pool) (literalsOf ws)) F → e .next + length ws < 65535
       → emitAll b e ws .image ≡ stored (e .image) (e .next) (map initial (fixedWords (frameOf b F) ws))
@@ -70,4 +86,4 @@ module _ (b : Bases) (F : List ℕ) (few : length F ≤ 512) where
       let y : Extends (addedAll (addedAll (e .pool) (literalOf w [])) (literalsOf ws)) F = subst (λ (l : List ℕ). Extends l F) (pooled-on (e .pool) w (literalsOf ws)) x in
       let one = one-word e w (joined (added-all-end (addedAll (e .pool) (literalOf w [])) (literalsOf ws)) y) (omega arith) in
       ap (λ (r : Emitted). emitAll b r ws .image) one
-      ∙ emitted ws (record { image = set (e .image) (e .next) (wordOf (frameOf b F) w); next = suc (e .next); pool = addedAll (e .pool) (literalOf w []) }) y (omega arith)
+      ∙ emitted ws (record { image = set (e .image) (e .next) (initial (roleOf (frameOf b F) w)); next = suc (e .next); pool = addedAll (e .pool) (literalOf w []) }) y (omega arith)

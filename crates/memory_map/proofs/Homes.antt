@@ -22,7 +22,7 @@ use Rattle.memory_map.specs.MapLaws.{StandsAt}
 
 abbrev pub GlobalAt : Program → ℕ → Kind → Type 0
 GlobalAt p n Kind.cell = CellAt p n
-GlobalAt p n (Kind.array size) = ArrayWord (mapAt p) (record { number = n; size = size }) (0o200 + n)
+GlobalAt p n (Kind.array size checked) = ArrayWord (mapAt p) (record { number = n; size = size; checked = checked }) (0o200 + n)
 GlobalAt p n Kind.procedure = ProcedureWord (mapAt p) n (0o200 + n)
 GlobalAt p n Kind.none = Unit {0}
 
@@ -59,9 +59,9 @@ module _ (p : Program) where
       global-as p Kind.cell (st .scope .taken) (st .scope .taken + 0) (omega arith) (constant-cell p st ks ds m name v h)
   globals (Declaration.item name (Item.constant v) ∷ ds) st ks m h (suc i) = on (Declaration.item name (Item.constant v)) ds (globals ds) st ks m h i (suc i) (omega arith)
   globals (Declaration.item name (Item.compconstant v) ∷ ds) st ks m h i = on (Declaration.item name (Item.compconstant v)) ds (globals ds) st ks m h i i (omega arith)
-  globals (Declaration.array name size values ∷ ds) st ks m h zero =
-      global-as p (Kind.array size) (st .scope .taken) (st .scope .taken + 0) (omega arith) (array-word p st ks ds m name size values h)
-  globals (Declaration.array name size values ∷ ds) st ks m h (suc i) = on (Declaration.array name size values) ds (globals ds) st ks m h i (suc i) (omega arith)
+  globals (Declaration.array name size checked values ∷ ds) st ks m h zero =
+      global-as p (Kind.array size checked) (st .scope .taken) (st .scope .taken + 0) (omega arith) (array-word p st ks ds m name size checked values h)
+  globals (Declaration.array name size checked values ∷ ds) st ks m h (suc i) = on (Declaration.array name size checked values) ds (globals ds) st ks m h i (suc i) (omega arith)
   globals (Declaration.procedure name accumulator locals body ∷ ds) st ks m h zero =
       global-as p Kind.procedure (st .scope .taken) (st .scope .taken + 0) (omega arith) (procedure-word p st ks ds m name accumulator locals body h)
   globals (Declaration.procedure name accumulator locals body ∷ ds) st ks m h (suc i) =
@@ -81,8 +81,8 @@ either {R = R} {a = a} s {t} f g h = go (List·Memᴰ·append-cases s h)
 module _ (p : Program) {A : Type 0} (cells : Id → Item → List A) (elements : ℕ → ℕ → List A) (Q : A → Type 0)
     (nothing : (i : Id) (v : ℕ) (a : A) → List·Memᴰ a (cells i (Item.compconstant v)) → ⊥)
     (of-item : (i : Id) (item : Item) (a : A) → List·Memᴰ a (cells i item) → (at : ℕ) → at < 16384 → mapAt p at ≡ getD (itemWords i item) 0 Role.free → Q a)
-    (of-array : (st : Allocation) (ks : List Kind) (ds : List Declaration) (m : List Role) (name : Name) (size : ℕ) (values : List ℕ)
-    → Here p st ks (Declaration.array name size values ∷ ds) m → (a : A) → List·Memᴰ a (elements (st .scope .taken) size) → Q a)
+    (of-array : (st : Allocation) (ks : List Kind) (ds : List Declaration) (m : List Role) (name : Name) (size : ℕ) (checked : Bool) (values : List ℕ)
+    → Here p st ks (Declaration.array name size checked values ∷ ds) m → (a : A) → List·Memᴰ a (elements (st .scope .taken) size) → Q a)
   where
     -- which of a procedure's local words, from the nth on, something is listed for
     record Which (q n : ℕ) (ws : List Role) (a : A) : Type 0 where
@@ -162,9 +162,9 @@ module _ (p : Program) {A : Type 0} (cells : Id → Item → List A) (elements :
     everything (Declaration.item name (Item.compconstant v) ∷ ds) st ks m h n e a k =
         either (cells (Id.global n) (Item.compconstant v)) (λ x. absurd (nothing (Id.global n) v a x))
         (further (Declaration.item name (Item.compconstant v)) ds (everything ds) st ks m h (n + 0) (omega arith) a) k
-    everything (Declaration.array name size values ∷ ds) st ks m h n e a k =
-        either (elements n size) (λ x. of-array st ks ds m name size values h a (subst (λ (j : ℕ). List·Memᴰ a (elements j size)) e x))
-        (further (Declaration.array name size values) ds (everything ds) st ks m h (suc n) (omega arith) a) k
+    everything (Declaration.array name size checked values ∷ ds) st ks m h n e a k =
+        either (elements n size) (λ x. of-array st ks ds m name size checked values h a (subst (λ (j : ℕ). List·Memᴰ a (elements j size)) e x))
+        (further (Declaration.array name size checked values) ds (everything ds) st ks m h (suc n) (omega arith) a) k
     everything (Declaration.procedure name accumulator locals body ∷ ds) st ks m h n e a k =
         either (localsBy cells n 0 locals) (of-procedure st ks ds m name accumulator locals body h n e a)
         (further (Declaration.procedure name accumulator locals body) ds (everything ds) st ks m h (suc n) (omega arith) a) k
@@ -204,16 +204,16 @@ module _ (p : Program) where
   of-integer i (Item.constant v) c h at l e = absurd (List·Memᴰ·not-nil h)
   of-integer i (Item.compconstant v) c h at l e = absurd (List·Memᴰ·not-nil h)
 
-  of-element : (st : Allocation) (ks : List Kind) (ds : List Declaration) (m : List Role) (name : Name) (size : ℕ) (values : List ℕ)
-      → Here p st ks (Declaration.array name size values ∷ ds) m → (i : CellId) → List·Memᴰ i (elementsOf (st .scope .taken) (65536 - size) size) → Stood p i
-  of-element st ks ds m name size values h i k =
+  of-element : (st : Allocation) (ks : List Kind) (ds : List Declaration) (m : List Role) (name : Name) (size : ℕ) (checked : Bool) (values : List ℕ)
+      → Here p st ks (Declaration.array name size checked values ∷ ds) m → (i : CellId) → List·Memᴰ i (elementsOf (st .scope .taken) (65536 - size) size) → Stood p i
+  of-element st ks ds m name size checked values h i k =
       let q = which-element (st .scope .taken) (65536 - size) size i k in
       let l : q .j < size = q .below in
       record {
         at = st .array - size + q .j;
         value = getD values (q .j) 0;
-        below = omega (arith, array-low p st ks ds m name size values h, h .room .top);
-        here = element-at p st ks ds m name size values h (q .j) l ∙ ap (λ (c : CellId). Role.cell c (getD values (q .j) 0)) (sym (q .is));
+        below = omega (arith, array-low p st ks ds m name size checked values h, h .room .top);
+        here = element-at p st ks ds m name size checked values h (q .j) l ∙ ap (λ (c : CellId). Role.cell c (getD values (q .j) 0)) (sym (q .is));
       }
 
   no-variable : (i : Id) (v : ℕ) (c : CellId) → List·Memᴰ c (itemVariables i (Item.compconstant v)) → ⊥
@@ -240,4 +240,4 @@ module _ (p : Program) where
   pub constants : (st : Allocation) (ks : List Kind) (m : List Role) → Here p st ks (p .declarations) m → 0 ≡ st .scope .taken
       → (c : CellId × ℕ) → List·Memᴰ c (declaredBy itemConstants (λ number size. []) 0 (p .declarations)) → StandsAt p (c .0) (c .1)
   constants st ks m h e =
-      everything p itemConstants (λ number size. []) (λ c. StandsAt p (c .0) (c .1)) no-constant of-constant (λ st ks ds m name size values h c k. absurd (List·Memᴰ·not-nil k)) (p .declarations) st ks m h 0 e
+      everything p itemConstants (λ number size. []) (λ c. StandsAt p (c .0) (c .1)) no-constant of-constant (λ st ks ds m name size checked values h c k. absurd (List·Memᴰ·not-nil k)) (p .declarations) st ks m h 0 e

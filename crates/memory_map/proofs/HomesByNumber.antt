@@ -15,7 +15,7 @@ use Rattle.memory_map.proofs.RoomBefore.{words-up}
 
 abbrev here : Allocation → Declaration → ℕ × ℕ
 here st (Declaration.item name item) = (0, 0)
-here st (Declaration.array name size values) = (st .array, 0)
+here st (Declaration.array name size checked values) = (st .array, 0)
 here st (Declaration.procedure name accumulator locals body) = (st .next, linkOf st name locals)
 here st Declaration.nextSector = (0, 0)
 
@@ -26,7 +26,7 @@ spotsFrom st (d ∷ ds) q = cond (ltb q (allocate st d .scope .taken)) (here st 
 -- the spots are those of the declarations
 abbrev pub Spotted : Spots → Allocation → Declaration → Type 0
 Spotted f st (Declaration.item name item) = Unit {0}
-Spotted f st (Declaration.array name size values) = f (st .scope .taken) .0 ≡ st .array
+Spotted f st (Declaration.array name size checked values) = f (st .scope .taken) .0 ≡ st .array
 Spotted f st (Declaration.procedure name accumulator locals body) = f (st .scope .taken) ≡ (st .next, linkOf st name locals)
 Spotted f st Declaration.nextSector = Unit {0}
 
@@ -37,7 +37,7 @@ pub data AllSpotted (f : Spots) : Allocation → List Declaration → Type 0 whe
 module _ (f g : Spots) where
   same-spot : (st : Allocation) (d : Declaration) → f (st .scope .taken) ≡ g (st .scope .taken) → Spotted f st d → Spotted g st d
   same-spot st (Declaration.item name item) e h = tt
-  same-spot st (Declaration.array name size values) e h = sym (ap (λ (s : ℕ × ℕ). s .0) e) ∙ h
+  same-spot st (Declaration.array name size checked values) e h = sym (ap (λ (s : ℕ × ℕ). s .0) e) ∙ h
   same-spot st (Declaration.procedure name accumulator locals body) e h = sym e ∙ h
   same-spot st Declaration.nextSector e h = tt
 
@@ -56,7 +56,7 @@ later st d ds q l = rw (le-ltb q (allocate st d .scope .taken) l)
 first : (st : Allocation) (d : Declaration) (ds : List Declaration) → Spotted (spotsFrom st (d ∷ ds)) st d
 unfolding allocate declare wordsTaken
 first st (Declaration.item name item) ds = tt
-first st (Declaration.array name size values) ds = ap (λ (s : ℕ × ℕ). s .0) (found st (Declaration.array name size values) ds (omega arith))
+first st (Declaration.array name size checked values) ds = ap (λ (s : ℕ × ℕ). s .0) (found st (Declaration.array name size checked values) ds (omega arith))
 first st (Declaration.procedure name accumulator locals body) ds = found st (Declaration.procedure name accumulator locals body) ds (omega arith)
 first st Declaration.nextSector ds = tt
 

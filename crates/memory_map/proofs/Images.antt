@@ -54,6 +54,12 @@ pub free-words : (n : ℕ) → map initial (replicate n Role.free) ≡ replicate
 free-words zero = refl
 free-words (suc n) = ap (λ (l : List ℕ). 0 ∷ l) (free-words n)
 
-pub zero-again : (n : ℕ) → set {A = ℕ} (replicate n 0) 0 0 ≡ replicate n 0
-zero-again zero = refl
-zero-again (suc n) = refl
+zero-again : (n k : ℕ) → set {A = ℕ} (replicate n 0) k 0 ≡ replicate n 0
+zero-again zero k = refl
+zero-again (suc n) zero = refl
+zero-again (suc n) (suc k) = ap (λ (l : List ℕ). 0 ∷ l) (zero-again n k)
+
+pub zeros-again : (n at k : ℕ) → stored (replicate n 0) at (replicate k 0) ≡ replicate n 0
+unfolding stored
+zeros-again n at zero = refl
+zeros-again n at (suc k) = ap (λ (l : List ℕ). stored l (suc at) (replicate k 0)) (zero-again n at) ∙ zeros-again n (suc at) k

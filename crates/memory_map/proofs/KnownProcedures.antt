@@ -16,7 +16,7 @@ use Rattle.memory_map.specs.KnownProcedures.{withProcedure, knownFrom, k
 kept-one : (m : ℕ) (ps : Known) (d : Declaration) (q : ℕ) → Knows ps q → Knows (withProcedure m ps d) q
 unfolding withProcedure
 kept-one m ps (Declaration.item name item) q k = k
-kept-one m ps (Declaration.array name size values) q k = k
+kept-one m ps (Declaration.array name size checked values) q k = k
 kept-one m ps (Declaration.procedure name accumulator locals body) q k = Knows.earlier k
 kept-one m ps Declaration.nextSector q k = k
 
@@ -39,8 +39,8 @@ knows m ps (Declaration.item name (Item.constant v) ∷ ds) zero e = let z : _�
 knows m ps (Declaration.item name (Item.constant v) ∷ ds) (suc n) e = subst (Knows (knownFrom (m + 1) ps ds)) (next m n) (knows (m + 1) ps ds n e)
 knows m ps (Declaration.item name (Item.compconstant v) ∷ ds) n e =
     subst (Knows (knownFrom (m + 0) ps ds)) (ap (λ (k : ℕ). k + n) (add-zero m)) (knows (m + 0) ps ds n e)
-knows m ps (Declaration.array name size values ∷ ds) zero e = let z : _≡_ {A = ℕ} 0 1 = cc in absurd (omega arith)
-knows m ps (Declaration.array name size values ∷ ds) (suc n) e = subst (Knows (knownFrom (m + 1) ps ds)) (next m n) (knows (m + 1) ps ds n e)
+knows m ps (Declaration.array name size checked values ∷ ds) zero e = let z : _≡_ {A = ℕ} 0 1 = cc in absurd (omega arith)
+knows m ps (Declaration.array name size checked values ∷ ds) (suc n) e = subst (Knows (knownFrom (m + 1) ps ds)) (next m n) (knows (m + 1) ps ds n e)
 knows m ps (Declaration.procedure name accumulator locals body ∷ ds) zero e =
     subst (Knows (knownFrom (m + 1) ((m, body) ∷ ps) ds)) (sym (add-zero m)) (kept (m + 1) ((m, body) ∷ ps) ds m Knows.here)
 knows m ps (Declaration.procedure name accumulator locals body ∷ ds) (suc n) e =
@@ -54,7 +54,7 @@ unfolding kindsOf globalsOf wordsTaken
 count-one (Declaration.item name Item.integer) = refl
 count-one (Declaration.item name (Item.constant v)) = refl
 count-one (Declaration.item name (Item.compconstant v)) = refl
-count-one (Declaration.array name size values) = refl
+count-one (Declaration.array name size checked values) = refl
 count-one (Declaration.procedure name accumulator locals body) = refl
 count-one Declaration.nextSector = refl
 
@@ -81,7 +81,7 @@ unfolding withProcedure globalsOf wordsTaken
 below-one m ps (Declaration.item name Item.integer) h q k = let l = h q k in omega arith
 below-one m ps (Declaration.item name (Item.constant v)) h q k = let l = h q k in omega arith
 below-one m ps (Declaration.item name (Item.compconstant v)) h q k = let l = h q k in omega arith
-below-one m ps (Declaration.array name size values) h q k = let l = h q k in omega arith
+below-one m ps (Declaration.array name size checked values) h q k = let l = h q k in omega arith
 below-one m ps (Declaration.procedure name accumulator locals body) h q Knows.here = omega arith
 below-one m ps (Declaration.procedure name accumulator locals body) h q (Knows.earlier k) = let l = h q k in omega arith
 below-one m ps Declaration.nextSector h q k = let l = h q k in omega arith

@@ -1,7 +1,7 @@
 -- Where each symbolic word stands in the map, the parts do, as the relations of specs/Laid say.
 use Prim.Native.Nat.{ℕ, zero, suc, _+_}
 use mathlib.Core.Path.{_≡_, refl, sym, subst, _∙_}
-use mathlib.Core.Bool.{Bool, true, false}
+use mathlib.Core.Bool.{Bool, true, false, cond}
 use mathlib.Core.List.{List, [], _∷_}
 use native.Mathlib.Nat.{zero-add, add-suc, suc-add}
 use mathlib.Core.Option.{Option}
@@ -11,15 +11,17 @@ use Rattle.instruction.specs.Opcode.{JMP, LDA, STA, JST, CAS, IRS, LDX}
 use Rattle.instruction.specs.Slot.{SPL, TCA}
 use Rattle.instruction.specs.declared.Instruction.the-variants.{Shift, Generic}
 use Rattle.tree.specs.Tree.{Id, CellId, Array, Operand, Subscript, Cell, Unary, Operation, Expr, Term, Cond, Target, Stmt, Stmts}
-use Rattle.layout.specs.Words.{Sym, _⧺_, Plain, plainWords, unaryPlain, shiftPlain, after, subscriptWords, reachWords, instructionWord, cellWords, unaryWords, unariesWords, operatorForm, operationWords, operationsWords, Control, controls, controlWord, controlWords, exprEnd, termEnd, condEnd, targetCell, stmtEnd, stmtsEnd, exprWords, termWords, condWords, stmtWords, stmtsWords}
-use Rattle.layout.specs.Map.{Role}
-use Rattle.memory_map.specs.Laid.{Map, Sits, Refers, Direct, named, ArrayWord, ProcedureWord, Known, Knows, LaidSubscript, LaidCell, LaidOn, LaidJump, LaidCall, LaidPlain, LaidUnary, LaidUnaries, LaidOperations, controlSits, LaidControls, LaidExpr, LaidTerm, LaidCond, LaidStmt, LaidStmts}
+use Rattle.layout.specs.Words.{Sym, _⧺_, Plain, plainWords, unaryPlain, shiftPlain, after, loadWords, aboveWords, belowWords, testWords, subscriptWords, reachWords, instructionWord, cellWords, unaryWords, unariesWords, operatorForm, operationWords, operationsWords, Control, controls, controlWord, controlWords, exprEnd, termEnd, condEnd, targetCell, stmtEnd, stmtsEnd, exprWords, termWords, condWords, stmtWords, stmtsWords}
+use Rattle.layout.specs.Map.{Role, savedRole}
+use Rattle.layout.specs.Addresses.{savedWord}
+use Rattle.memory_map.specs.Laid.{Map, Sits, Stops, Refers, Direct, named, ArrayWord, ProcedureWord, Known, Knows, LaidLoad, TestWords, LaidTest, LaidSubscript, LaidCell, LaidOn, LaidJump, LaidCall, LaidPlain, LaidUnary, LaidUnaries, LaidOperations, controlSits, LaidControls, LaidExpr, LaidTerm, LaidCond, LaidStmt, LaidStmts}
 use Rattle.parsing_laws.specs.WellFormed.{Context, ArrayOk, ProcedureOk, CellOk, OperationsOk, TermOk, CondOk, ExprBy, ExprOk, TargetOk, StmtBy, StmtsBy, IsEmpty, StmtOk}
 use Rattle.layout_laws.proofs.Spans.{Span, join, same, along, span-expr, span-term, span-cond, span-stmt, span-stmts}
 
--- what a context's arrays and procedures have in the map
+-- what a context's arrays and procedures have in the map; word 2 is as the arrays' flags say
 pub record Globals (M : Map) (ps : Known) (x : Context) : Type 0 where
   pub arrays : (r : Array) → ArrayOk x r → ArrayWord M r (0o200 + r .number)
+  pub saved-at : (r : Array) → ArrayOk x r → M savedWord ≡ savedRole (r .checked)
   pub procedures : (p : ℕ) → ProcedureOk x p → ProcedureWord M p (0o200 + p) × Knows ps p
 
 -- a memory reference whose operand is where it refers to
@@ -36,6 +38,8 @@ Stands M a (Sym.memory code o) = StandsCell M code o a
 Stands M a (Sym.through code n) = Refers M a code true (0o200 + n)
 Stands M a (Sym.jump z) = Refers M a JMP false z
 Stands M a (Sym.return link) = Refers M a JMP true link
+Stands M a (Sym.saved code) = Refers M a code false savedWord
+Stands M a Sym.stop = Stops M a
 
 pub data Covers (M : Map) : ℕ → List Sym → Type 0 where
   none : {a : ℕ} → Covers M a []
@@ -55,10 +59,10 @@ module _ (M : Map) where
 
   -- ---- Words that name no procedure
 
-  subscript : (r : Array) (s : Subscript) (a b : ℕ) → Span a (subscriptWords r s) b → Covers M a (subscriptWords r s) → LaidSubscript M r s a b
-  unfolding subscriptWords
-  subscript r (Subscript.by o) a b (Span.word Span.none) k = LaidSubscript.by (first k .refers) (first k .direct)
-  subscript r Subscript.hash a b Span.none k = LaidSubscript.hash
+  load : (s : Subscript) (a b : ℕ) → Span a (loadWords s) b → Covers M a (loadWords s) → LaidLoad M s a b
+  unfolding loadWords
+  load (Subscript.by o) a b (Span.word Span.none) k = LaidLoad.by (first k .refers) (first k .direct)
+  load Subscript.hash a b Span.none k = LaidLoad.hash
 
   plain : (ps : List Plain) (a b : ℕ) → Span a (plainWords ps) b → Covers M a (plainWords ps) → LaidPlain M ps a b
   plain [] a b Span.none k = LaidPlain.none
@@ -111,11 +115,50 @@ module _ (M : Map) (once : (k l : ℕ) (i : CellId) (v w : ℕ) → M k ≡ Role
   again : (i : Id) {a b : ℕ} → (irs : StandsCell M IRS (Operand.named i) a) → (sta : StandsCell M STA (Operand.named i) b) → Refers M a IRS false (sta .at)
   again i {a} irs sta = subst (Refers M a IRS false) (same-home (irs .direct) (sta .direct)) (irs .refers)
 
-  at-x : {a : ℕ} → StandsCell M IRS (Operand.named Id.x) a → Refers M a IRS false 0
-  at-x {a} irs = subst (Refers M a IRS false) (home (irs .direct)) (irs .refers)
+  at-x : {code a : ℕ} → StandsCell M code (Operand.named Id.x) a → Refers M a code false 0
+  at-x {code} {a} s = subst (Refers M a code false) (home (s .direct)) (s .refers)
     where
       home : {k : ℕ} → Direct M (Operand.named Id.x) k → k ≡ 0
       home {k} (Direct.named {v = v} h e) = once k 0 (CellId.named Id.x) v 0 e x-at
+
+  -- ---- Subscripts
+
+  test-words : (r : Array) (a : ℕ) → Covers M a (testWords r) → TestWords M r a
+  unfolding testWords aboveWords belowWords _⧺_
+  test-words r a (Covers.word save (Covers.word load (Covers.word high (Covers.word above (Covers.word equal
+      (Covers.word low (Covers.word over (Covers.word skip (Covers.word below (Covers.word restore Covers.none)))))))))) = record {
+        high = high .at;
+        low = low .at;
+        save = save;
+        load = at-x load;
+        compare-high = high .refers;
+        at-high = high .direct;
+        stop-above = above;
+        nop-equal = equal;
+        compare-low = low .refers;
+        at-low = low .direct;
+        nop-over = over;
+        skip = skip;
+        stop-below = below;
+        restore = restore;
+      }
+
+  test : (r : Array) (checked : Bool) → r .checked ≡ checked → M savedWord ≡ savedRole checked → (a b : ℕ) → Span a (cond checked (testWords r) []) b
+      → Covers M a (cond checked (testWords r) []) → LaidTest M r a b
+  unfolding testWords aboveWords belowWords _⧺_ savedRole
+  test r true e s a b (Span.word (Span.word (Span.word (Span.word (Span.word (Span.word (Span.word (Span.word (Span.word (Span.word Span.none)))))))))) k =
+      LaidTest.words e s (test-words r a k)
+  test r false e s a b Span.none k = LaidTest.none e s
+
+  subscript : (r : Array) (s : Subscript) → M savedWord ≡ savedRole (r .checked) → (a b : ℕ) → Span a (subscriptWords r s) b → Covers M a (subscriptWords r s)
+      → LaidSubscript M r s a b
+  unfolding subscriptWords
+  subscript r s saved a b p k =
+      let l = along (loadWords s) a in
+      let m = after (loadWords s) a in
+      let ws = cond (r .checked) (testWords r) [] in
+      let q = split M l k in
+      subst (LaidSubscript M r s a) (same (join l (along ws m)) p) (LaidSubscript.both (load M s a m l (q .0)) (test r (r .checked) refl saved m _ (along ws m) (q .1)))
 
 module _ (M : Map) (ps : Known) (x : Context) (g : Globals M ps x) (once : (k l : ℕ) (i : CellId) (v w : ℕ) → M k ≡ Role.cell i v → M l ≡ Role.cell i w → k ≡ l)
     (x-at : M 0 ≡ Role.cell (CellId.named Id.x) 0) where
@@ -131,7 +174,7 @@ module _ (M : Map) (ps : Known) (x : Context) (g : Globals M ps x) (once : (k l 
   reached : (code : ℕ) (c : Cell) (a m n : ℕ) → CellOk x c → Span a (reachWords c) m → Covers M a (reachWords c) → Stands M n (instructionWord code c) → Reached code c a m n
   unfolding reachWords instructionWord
   reached code (Cell.plain o) a m n h Span.none k s = record { indirect = false; at = s .at; cell = LaidCell.plain (s .direct); refers = s .refers }
-  reached code (Cell.item r s) a m n h p k t = record { indirect = true; at = 0o200 + r .number; cell = LaidCell.item (subscript M r s a m p k) (g .arrays r (h .0)); refers = t }
+  reached code (Cell.item r s) a m n h p k t = record { indirect = true; at = 0o200 + r .number; cell = LaidCell.item (subscript M once x-at r s (g .saved-at r (h .0)) a m p k) (g .arrays r (h .0)); refers = t }
 
   on-cell : (code : ℕ) (c : Cell) (a : ℕ) → CellOk x c → Covers M a (cellWords code c) → LaidOn M code c a (after (cellWords code c) a)
   unfolding cellWords
@@ -155,7 +198,8 @@ module _ (M : Map) (ps : Known) (x : Context) (g : Globals M ps x) (once : (k l 
       let r = split M (along (reachWords c) a) (q .0) in
       let s = split M (along before m) (r .1) in
       let i = reached (operatorForm o .opcode) c a m n (h .0) (along (reachWords c) a) (r .0) (first M (s .1)) in
-      LaidOperations.binary (i .cell) (plain M (operatorForm o .before) m n (along before m) (s .0)) (i .refers) (plain M (operatorForm o .after) (suc n) l (along behind (suc n)) (rest M (s .1)))
+      LaidOperations.binary {k = i .at} {indirect = i .indirect} (i .cell) (plain M (operatorForm o .before) m n (along before m) (s .0)) (i .refers)
+      (plain M (operatorForm o .after) (suc n) l (along behind (suc n)) (rest M (s .1)))
       (subst (LaidOperations M os l) (same (join whole (along (operationsWords os) l)) p) (operations os l (after (operationsWords os) l) (h .1) (along (operationsWords os) l) (q .1)))
   operations (Operation.shift s n ∷ os) a b h p k =
       let q = split M (Span.word Span.none) k in

@@ -1,5 +1,5 @@
 -- A program whose parts are placed stands in its map, as `LaidProgram` says.
-use Prim.Native.Nat.{ℕ, suc, _+_, _*_, _≤_}
+use Prim.Native.Nat.{ℕ, zero, suc, _+_, _*_, _≤_}
 use mathlib.Core.Path.{_≡_, sym, ap, subst, _∙_, refl}
 use mathlib.Core.Bool.{Bool}
 use mathlib.Core.List.{List, [], _∷_, _++_, append-assoc, append-nil}
@@ -10,11 +10,11 @@ use Rattle.instruction.specs.Slot.{HLT}
 use Rattle.instruction.specs.Table.{generics, tableOf}
 use Rattle.instruction.specs.Decode.{findWord, genericOf, shiftOf, memoryOf, decodeDef}
 use Rattle.instruction.proofs.Rows.{isAt}
-use Rattle.tree.specs.Tree.{Name, Item, Stmts, Declaration, Program}
-use Rattle.layout.specs.Words.{Sym, _⧺_, stmtsEnd, stmtsWords, procedureWords, mainWords}
-use Rattle.layout.specs.Allocation.{allocated, localWords, linkOf}
-use Rattle.layout.specs.Map.{Frame, Role, initial, frame, planOf, declared, mapOf, imageOf, mapAt}
-use Rattle.parsing_laws.specs.WellFormed.{Kind, Context, kindsOf, StmtsBy, StmtOk, DeclarationOk, DeclarationsOk, none, more, WellFormed}
+use Rattle.tree.specs.Tree.{Array, Name, Item, Stmts, Declaration, Program}
+use Rattle.layout.specs.Words.{Sym, _⧺_, after, stmtsEnd, stmtsWords, procedureWords, mainWords}
+use Rattle.layout.specs.Allocation.{allocated, localWords, linkOf, finish}
+use Rattle.layout.specs.Map.{Frame, Role, savedRole, initial, frame, planOf, declared, finished, mapOf, imageOf, mapAt}
+use Rattle.parsing_laws.specs.WellFormed.{All, Kind, Context, kindsOf, StmtsBy, StmtOk, DeclarationOk, DeclarationsOk, none, more, Flagged, WellFormed}
 use Rattle.memory_map.specs.Laid.{Map, Sound, Known, Knows, LaidStmts, LaidProcedure, LaidProcedures, LaidProgram}
 use Rattle.memory_map.specs.KnownProcedures.{withProcedure, knownFrom, knownOf}
 use Rattle.layout_laws.proofs.Spans.{Span, join, span-stmts, span-end}
@@ -34,6 +34,21 @@ use Rattle.memory_map.proofs.AtDeclaration.{map-length}
 kept : (ds es : List Declaration) (n : ℕ) (k : Kind) → (k ≡ Kind.none → ⊥) → getD (kindsOf ds) n Kind.none ≡ k → getD (kindsOf (ds ++ es)) n Kind.none ≡ k
 kept ds es n k some e = ap (λ (l : List Kind). getD l n Kind.none) (kinds-append ds es) ∙ append-extends (kindsOf ds) (kindsOf es) n k some e
 
+-- an array has the program's flag
+flag-of : {checked flag : Bool} {size : ℕ} (ds : List Declaration) → All (Flagged checked) ds → (n : ℕ) → getD (kindsOf ds) n Kind.none ≡ Kind.array size flag → flag ≡ checked
+unfolding kindsOf
+flag-of [] f n e = let z : _≡_ {A = ℕ} 0 1 = cc in absurd (omega arith)
+flag-of (Declaration.item name Item.integer ∷ ds) f zero e = let z : _≡_ {A = ℕ} 0 1 = cc in absurd (omega arith)
+flag-of (Declaration.item name Item.integer ∷ ds) f (suc n) e = flag-of ds (f .1) n e
+flag-of (Declaration.item name (Item.constant v) ∷ ds) f zero e = let z : _≡_ {A = ℕ} 0 1 = cc in absurd (omega arith)
+flag-of (Declaration.item name (Item.constant v) ∷ ds) f (suc n) e = flag-of ds (f .1) n e
+flag-of (Declaration.item name (Item.compconstant v) ∷ ds) f n e = flag-of ds (f .1) n e
+flag-of (Declaration.array name size own values ∷ ds) f zero e = let z = f .0 in cc
+flag-of (Declaration.array name size own values ∷ ds) f (suc n) e = flag-of ds (f .1) n e
+flag-of (Declaration.procedure name accumulator locals body ∷ ds) f zero e = let z : _≡_ {A = ℕ} 0 1 = cc in absurd (omega arith)
+flag-of (Declaration.procedure name accumulator locals body ∷ ds) f (suc n) e = flag-of ds (f .1) n e
+flag-of (Declaration.nextSector ∷ ds) f n e = flag-of ds (f .1) n e
+
 halt-slot : SlotOk HLT
 unfolding isAt decodeDef genericOf findWord generics shiftOf memoryOf tableOf
 halt-slot = tt
@@ -43,6 +58,7 @@ module _ (M : Map) (ps : Known) (sound : Sound M) where
   record Laid (ss : Stmts) (a : ℕ) (last : Sym) : Type 0 where
     statements : LaidStmts M ps ss a (stmtsEnd ss a)
     word : Covers M (stmtsEnd ss a) (last ∷ [])
+    end : suc (stmtsEnd ss a) ≡ after (stmtsWords ss a ⧺ last ∷ []) a
 
   laid-body : (f : Frame) (x : Context) (g : Globals M ps x) (ss : Stmts) (a : ℕ) (last : Sym) → length (x .globals) ≤ 384
       → StmtsBy (StmtOk x 33) ss → WordOk x (f .locals) (stmtsEnd ss a) last → Body M f x a (stmtsWords ss a ⧺ last ∷ []) → Laid ss a last
@@ -57,7 +73,7 @@ module _ (M : Map) (ps : Known) (sound : Sound M) where
       (both (body-words x (f .locals) (stmtsEnd ss a) ss a ok (b .from) (omega arith)) (AllOk.word {w = last} final AllOk.none))
       (b .literals) (b .fixed) (b .from) (omega arith) (omega arith) in
       let q = split M p c in
-      record { statements = body M ps x g (sound .once) (sound .x-at) ss a ok (q .0); word = q .1 }
+      record { statements = body M ps x g (sound .once) (sound .x-at) ss a ok (q .0); word = q .1; end = e }
 
 module _ (p : Program) (w : WellFormed p) (placed : Placement p) where
   abbrev M : Map
@@ -66,12 +82,17 @@ module _ (p : Program) (w : WellFormed p) (placed : Placement p) where
   -- what the first declarations declare stands in the map
   globals : (ds es : List Declaration) → p .declarations ≡ ds ++ es → (own locals : ℕ) → Globals M (knownOf ds) (record { globals = kindsOf ds; own = own; locals = locals })
   globals ds es e own locals = record {
-    arrays = λ r h. placed .arrays r (all (r .number) (Kind.array (r .size)) (array-some (r .size)) h);
+    arrays = λ r h. placed .arrays r (array r h);
+    saved-at = λ r h. placed .saved-at ∙ ap savedRole (sym (flag-of (p .declarations) (w .flags) (r .number) (array r h)));
     procedures = λ n h. (placed .words n (all n Kind.procedure procedure-some h), known n h);
   }
     where
       all : (n : ℕ) (k : Kind) → (k ≡ Kind.none → ⊥) → getD (kindsOf ds) n Kind.none ≡ k → getD (kindsOf (p .declarations)) n Kind.none ≡ k
       all n k some h = ap (λ (l : List Declaration). getD (kindsOf l) n Kind.none) e ∙ kept ds es n k some h
+
+      array : (r : Array) → getD (kindsOf ds) (r .number) Kind.none ≡ Kind.array (r .size) (r .checked)
+          → getD (kindsOf (p .declarations)) (r .number) Kind.none ≡ Kind.array (r .size) (r .checked)
+      array r h = all (r .number) (Kind.array (r .size) (r .checked)) (array-some (r .size) (r .checked)) h
 
       known : (n : ℕ) → getD (kindsOf ds) n Kind.none ≡ Kind.procedure → Knows (knownOf ds) n
       known n h = subst (Knows (knownOf ds)) (zero-add n) (knows 0 [] ds n h)
@@ -108,7 +129,7 @@ module _ (p : Program) (w : WellFormed p) (placed : Placement p) where
       → LaidProcedures M (knownOf ds) → LaidProcedures M (withProcedure (length (kindsOf ds)) (knownOf ds) d)
   unfolding withProcedure
   one-more ds es h (Declaration.item name item) ok e l = l
-  one-more ds es h (Declaration.array name size values) ok e l = l
+  one-more ds es h (Declaration.array name size checked values) ok e l = l
   one-more ds es h (Declaration.procedure name accumulator locals ss) ok e l =
       LaidProcedures.more (procedure ds h name accumulator locals ss es e ok)
       (λ k. let b = known-below ds (length (kindsOf ds)) k in omega arith) l
@@ -135,7 +156,8 @@ module _ (p : Program) (w : WellFormed p) (placed : Placement p) where
         procedures = procedures ds (w .declarations) [] all;
         last = stmtsEnd (p .main) (st .next);
         statements = r .statements;
-        stop = first M (r .word);
+        halt = first M (r .word);
+        end = r .end;
       }
 
 -- ---- Of what was accepted
@@ -156,6 +178,16 @@ laid-at c a =
     let p = c .program in
     let at : ℕ → Type 0 = LaidProgram (mapAt p) (knownOf (p .declarations)) (p .main) in
     subst at (ap (λ (d : Compiled). d .entry) (sym (a .is))) (subst at (entry-of p) (laid p (a .well-formed) (placed p (a .well-formed))))
+
+end-of : (p : Program) → after (mainWords (p .main) (compiled p .entry)) (compiled p .entry) ≡ finished p .next
+unfolding compiled declared finished finish
+end-of p = let n = allocated (p .declarations) .next in let z : n ≡ n + 0 = omega arith in ap (after (mainWords (p .main) n)) z
+
+-- the address behind the last word of the main body
+pub end-at : (c : Compiled) → Accepted c → after (mainWords (c .program .main) (c .entry)) (c .entry) ≡ finished (c .program) .next
+end-at c a =
+    let p = c .program in
+    subst (λ (n : ℕ). after (mainWords (p .main) n) n ≡ finished p .next) (ap (λ (d : Compiled). d .entry) (sym (a .is))) (end-of p)
 
 pub image-at : (c : Compiled) → Accepted c → c .image ≡ imageOf (c .program)
 image-at c a = ap (λ (d : Compiled). d .image) (a .is) ∙ image-of (c .program)

@@ -1,11 +1,12 @@
 -- A map with some words from an address on replaced: what stands where.
 use Prim.Native.Nat.{ℕ, _+_, _-_, _≤_, _<_}
 use mathlib.Core.Path.{_≡_, sym, ap, _∙_}
-use mathlib.Core.List.{List, _∷_, _++_}
+use mathlib.Core.List.{List, [], _∷_, _++_}
 use native.Mathlib.Omega.{arith}
-use lib.ListN.{length, getD, take, drop, length-append, length-drop, List·getD-append}
+use lib.ListN.{length, getD, take, drop, length-append, length-drop, length-replicate, replicate, List·getD-append}
 use lib.Seq.{length-take-le, getD-take, getD-drop, getD-append-add}
-use Rattle.layout.specs.Map.{Role, placed}
+use Rattle.tree.specs.Tree.{Id, CellId, Program}
+use Rattle.layout.specs.Map.{Role, placed, savedRole, front}
 
 module _ (m : List Role) (at : ℕ) (ws : List Role) (fits : at + length ws ≤ length m) where
   head-length : length (take at m) ≡ at
@@ -41,3 +42,21 @@ pub placed-first : (m : List Role) (at : ℕ) (w : Role) (ws : List Role) → at
 placed-first m at w ws h =
     let e : at ≡ at + 0 = omega arith in
     ap (λ (n : ℕ). getD (placed m at (w ∷ ws)) n Role.free) e ∙ placed-in m at (w ∷ ws) h 0 (omega arith)
+
+-- ---- Before the declarations
+
+-- the words at the front: X, and the one for A while a subscript is tested
+abbrev pub frontWords : Program → List Role
+frontWords p = Role.cell (CellId.named Id.x) 0 ∷ Role.free ∷ savedRole (p .checked) ∷ []
+
+module _ (p : Program) where
+  pub front-fits : 0 + length (frontWords p) ≤ length (replicate 16384 Role.free)
+  front-fits = omega (arith, length-replicate 16384 Role.free)
+
+  pub front-size : length (front p) ≡ 16384
+  unfolding front
+  front-size = placed-size (replicate 16384 Role.free) 0 (frontWords p) front-fits ∙ length-replicate 16384 Role.free
+
+  pub front-in : (j : ℕ) → j < 3 → getD (front p) (0 + j) Role.free ≡ getD (frontWords p) j Role.free
+  unfolding front
+  front-in j h = placed-in (replicate 16384 Role.free) 0 (frontWords p) front-fits j h

@@ -5,21 +5,21 @@ use mathlib.Core.Bool.{Bool}
 use mathlib.Core.Logic.{_⊎_, inl, inr}
 use mathlib.Core.List.{List, [], _∷_, _++_, map, append-nil, List·Memᴰ, List·Memᴰ·cases-cons}
 use native.Mathlib.Omega.{arith}
-use lib.ListN.{length, getD, replicate, length-append, length-replicate, List·getD-append}
+use lib.ListN.{length, getD, length-append, List·getD-append}
 use Rattle.tree.specs.Tree.{Id, CellId, Operand, Name, Item, Stmts, Declaration, Program}
 use Rattle.layout.specs.Words.{after, procedureWords, mainWords}
 use Rattle.layout.specs.Pool.{literalsOf, indexOf}
 use Rattle.layout.specs.Allocation.{Allocation, start, sectorOf, allocated, localWords, linkOf, allocate, finish}
-use Rattle.layout.specs.Map.{Frame, addressOf, Role, Plan, frame, fixedWords, placeAll, planOf, Home, mapAt}
+use Rattle.layout.specs.Map.{Frame, addressOf, Role, Plan, frame, fixedWords, placeAll, planOf, front, Home, mapAt}
 use Rattle.tree.specs.Variables.{itemVariables, elementsOf, declaredBy, variablesOf, constantsOf}
 use Rattle.parsing_laws.specs.WellFormed.{Kind, IdOk, kindsOf, WellFormed}
 use Rattle.memory_map.specs.Laid.{Direct, named, literal}
 use Rattle.memory_map.proofs.Bodies.{Near, Body, Placement}
-use Rattle.memory_map.proofs.Placed.{placed-in, placed-first}
+use Rattle.memory_map.proofs.Placed.{placed-in, frontWords, front-in}
 use Rattle.parsing_laws.proofs.Parsed.Scopes.{kinds-append}
 use Rattle.memory_map.proofs.DeclarationWords.{Local, fixed-length, fixed-from}
 use Rattle.memory_map.proofs.Untouched.{FreeSpace, Outside}
-use Rattle.memory_map.proofs.AtDeclaration.{Here, next, placing, split, tail, tail-length, last-pool, kept, empty, begin}
+use Rattle.memory_map.proofs.AtDeclaration.{Here, next, placing, split, tail, tail-length, last-pool, kept, begin}
 use Rattle.memory_map.proofs.SectorPools.{Closing, closing, poolOf, Literal, literal as in-pool}
 use Rattle.memory_map.proofs.FinishedMap.{CellAt, link-word, body-fixed, local-word, code-room}
 use Rattle.memory_map.proofs.Homes.{GlobalAt, global-as, globals, Stood, variables, constants}
@@ -40,12 +40,14 @@ module _ (p : Program) (w : WellFormed p) where
   -- ---- Globals
 
   pub global-at : (n : ℕ) → GlobalAt p n (getD (kindsOf (p .declarations)) n Kind.none)
-  global-at n = global-as p (getD (kindsOf (p .declarations)) n Kind.none) (0 + n) n (omega arith) (globals p (p .declarations) start [] (empty p) (begin p w) n)
+  global-at n = global-as p (getD (kindsOf (p .declarations)) n Kind.none) (0 + n) n (omega arith) (globals p (p .declarations) start [] (front p) (begin p w) n)
+
+  -- declarations place nothing at the front
+  front-at : (j : ℕ) → j < 3 → mapAt p (0 + j) ≡ getD (frontWords p) j Role.free
+  front-at j h = kept p (p .declarations) start [] (front p) (begin p w) .same (0 + j) (Outside.global (omega arith)) ∙ front-in p j h
 
   pub x-at : mapAt p 0 ≡ Role.cell (CellId.named Id.x) 0
-  x-at =
-      kept p (p .declarations) start [] (empty p) (begin p w) .same 0 (Outside.global (omega arith))
-      ∙ placed-first (replicate 16384 Role.free) 0 (Role.cell (CellId.named Id.x) 0) [] (omega (arith, length-replicate 16384 Role.free))
+  x-at = front-at 0 (omega arith)
 
   -- ---- Names in reach of a body
 
@@ -165,14 +167,14 @@ module _ (p : Program) (w : WellFormed p) where
       ap (λ (l : List Declaration). getD (kindsOf l) n Kind.none) e ∙ ap (λ (l : List Kind). getD l n Kind.none) (kinds-append before ds) ∙ some-cell (kindsOf before) (kindsOf ds) n k in
       subst (λ (k : Kind). GlobalAt p n k) q (global-at n)
 
-  at-place : (before ds : List Declaration) → p .declarations ≡ before ++ ds → Here p (allocated before) (kindsOf before) ds (placeAll (planOf p) start before (empty p))
+  at-place : (before ds : List Declaration) → p .declarations ≡ before ++ ds → Here p (allocated before) (kindsOf before) ds (placeAll (planOf p) start before (front p))
   unfolding allocated
-  at-place before ds e = split p before start [] ds (empty p) (subst (λ (l : List Declaration). Here p start [] l (empty p)) e (begin p w))
+  at-place before ds e = split p before start [] ds (front p) (subst (λ (l : List Declaration). Here p start [] l (front p)) e (begin p w))
 
   -- a named constant stands with its value
   pub constant-home : (c : CellId × ℕ) → List·Memᴰ c (constantsOf p) → StandsAt p (c .0) (c .1)
   unfolding constantsOf
-  constant-home = constants p start [] (empty p) (begin p w) refl
+  constant-home = constants p start [] (front p) (begin p w) refl
 
   module _ (once : (k l : ℕ) (i : CellId) (v u : ℕ) → mapAt p k ≡ Role.cell i v → mapAt p l ≡ Role.cell i u → k ≡ l)
       (link-once : (k l n : ℕ) → mapAt p k ≡ Role.link n → mapAt p l ≡ Role.link n → k ≡ l) where
@@ -185,23 +187,24 @@ module _ (p : Program) (w : WellFormed p) where
 
         go : (i ≡ CellId.named Id.x) ⊎ List·Memᴰ i (declaredBy itemVariables (λ number size. elementsOf number (65536 - size) size) 0 (p .declarations)) → Home p i
         go (inl e) = of (record { at = 0; value = 0; below = omega arith; here = x-at ∙ ap (λ (c : CellId). Role.cell c 0) (sym e) })
-        go (inr k) = of (variables p start [] (empty p) (begin p w) refl i k)
+        go (inr k) = of (variables p start [] (front p) (begin p w) refl i k)
 
     pub placement : Placement p
     placement = record {
       sound = record { x-at = x-at; once = once; link-once = link-once };
+      saved-at = front-at 2 (omega arith);
       homes = home;
       arrays = λ r e. subst (λ (k : Kind). GlobalAt p (r .number) k) e (global-at (r .number));
       words = λ n e. subst (λ (k : Kind). GlobalAt p n k) e (global-at n);
       procedures = λ before name accumulator locals body more e.
           let d = Declaration.procedure name accumulator locals body in
           let h = at-place before (d ∷ more) e in
-          let m = placeAll (planOf p) start before (empty p) in (
+          let m = placeAll (planOf p) start before (front p) in (
             link-word p (allocated before) (kindsOf before) more m name accumulator locals body h,
             procedure-body (allocated before) (kindsOf before) more m (cells-before before (d ∷ more) e) name accumulator locals body h,
           );
       main =
           let ds = p .declarations in
           let e : ds ≡ ds ++ [] = sym (append-nil ds) in
-          main-body (allocated ds) (kindsOf ds) [] (placeAll (planOf p) start ds (empty p)) (cells-before ds [] e) (at-place ds [] e);
+          main-body (allocated ds) (kindsOf ds) [] (placeAll (planOf p) start ds (front p)) (cells-before ds [] e) (at-place ds [] e);
     }

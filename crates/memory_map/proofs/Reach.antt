@@ -19,7 +19,8 @@ use Rattle.machine.specs.Address.{baseOf}
 use Rattle.tree.specs.Tree.{Operand}
 use Rattle.layout.specs.Words.{Sym, after}
 use Rattle.layout.specs.Pool.{literalOf, literalsOf}
-use Rattle.layout.specs.Map.{Frame, addressOf, reference, wordOf, Role}
+use Rattle.layout.specs.Map.{Frame, addressOf, reference, wordOf, roleOf, Role}
+use Rattle.layout.specs.Addresses.{savedWord}
 use Rattle.memory_map.specs.Laid.{Map, Refers, Direct}
 use Rattle.parsing_laws.specs.WellFormed.{Context, IdOk, OperandOk}
 use Rattle.memory_map.proofs.LaidParts.{Stands, Covers}
@@ -64,6 +65,8 @@ tail-literal (Sym.memory code (Operand.literal u)) v vs m = List·Memᴰ·tail m
 tail-literal (Sym.through code n) v vs m = m
 tail-literal (Sym.jump z) v vs m = m
 tail-literal (Sym.return link) v vs m = m
+tail-literal (Sym.saved code) v vs m = m
+tail-literal Sym.stop v vs m = m
 
 module _ (M : Map) (f : Frame) (x : Context) (s lo hi : ℕ) (low : 512 * s ≤ lo) (high : hi < 512 * suc s) (few : length (x .globals) ≤ 384)
     (ids : (i : _) → IdOk x i → Direct M (Operand.named i) (addressOf f (Operand.named i)) × Near s (addressOf f (Operand.named i))) where
@@ -75,8 +78,8 @@ module _ (M : Map) (f : Frame) (x : Context) (s lo hi : ℕ) (low : 512 * s ≤ 
   operand (Operand.named i) code vs h l = ids i h
   operand (Operand.literal v) code vs h l = l v (head-literal code v vs) h
 
-  one : (w : Sym) (a : ℕ) (vs : List ℕ) → WordOk x lo hi w → Literals (literalOf w vs) → suc a < 16384 → lo ≤ a → a ≤ hi → M a ≡ Role.fixed (wordOf f w) → Stands M a w
-  unfolding wordOf
+  one : (w : Sym) (a : ℕ) (vs : List ℕ) → WordOk x lo hi w → Literals (literalOf w vs) → suc a < 16384 → lo ≤ a → a ≤ hi → M a ≡ roleOf f w → Stands M a w
+  unfolding roleOf wordOf
   one (Sym.generic slot) a vs h l below p q e = record { below = below; word = getD tableOf slot 0; here = e; decodes = is-at slot (decodeDef (getD tableOf slot 0)) h }
   one (Sym.shift kind n) a vs h l below p q e = record { below = below; word = shiftWord kind n; here = e; decodes = encoded h }
   one (Sym.memory code o) a vs h l below p q e =
@@ -90,6 +93,8 @@ module _ (M : Map) (f : Frame) (x : Context) (s lo hi : ℕ) (low : 512 * s ≤ 
       refers M a JMP z false (plain-code JMP refl) below (inr (in-sector s z lo hi low (h .0) (h .1) high ∙ sym (in-sector s a lo hi low p q high))) e
   one (Sym.return link) a vs h l below p q e =
       refers M a JMP link true (plain-code JMP refl) below (inr (in-sector s link lo hi low (h .0) (h .1) high ∙ sym (in-sector s a lo hi low p q high))) e
+  one (Sym.saved code) a vs h l below p q e = refers M a code savedWord false h below (inl (omega arith)) e
+  one Sym.stop a vs h l below p q e = record { below = below; here = e }
 
   pub covers : (ws : List Sym) (a : ℕ) → AllOk x lo hi ws → Literals (literalsOf ws) → Fixed M f a ws → lo ≤ a → after ws a ≤ suc hi → hi < 16383 → Covers M a ws
   unfolding literalsOf

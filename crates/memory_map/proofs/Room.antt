@@ -21,7 +21,7 @@ use Rattle.memory_map.proofs.PoolLaws.{added-all-end, no-shorter}
 pub kinds-cons : (d : Declaration) (ds : List Declaration) → kindsOf (d ∷ ds) ≡ kindsOf (d ∷ []) ++ kindsOf ds
 unfolding kindsOf
 kinds-cons (Declaration.item name item) ds = ap (λ (l : List Kind). l ++ kindsOf ds) (sym (append-nil (itemKinds item)))
-kinds-cons (Declaration.array name size values) ds = refl
+kinds-cons (Declaration.array name size checked values) ds = refl
 kinds-cons (Declaration.procedure name accumulator locals body) ds = refl
 kinds-cons Declaration.nextSector ds = refl
 
@@ -80,7 +80,7 @@ next-follows st h = let r = follow st (sectorLimit st) h in (sector-fits st (r .
 pub before : (st : Allocation) (ks : List Kind) (d : Declaration) → DeclarationOk st ks d → Fits (allocate st d) → Fits st
 unfolding allocate
 before st ks (Declaration.item name item) h f = record { sector = f .sector; space = f .space }
-before st ks (Declaration.array name size values) h f = record { sector = f .sector; space = omega (arith, f .space) }
+before st ks (Declaration.array name size checked values) h f = record { sector = f .sector; space = omega (arith, f .space) }
 before st ks (Declaration.procedure name accumulator locals body) h f =
     let l = no-shorter (added-all-end (st .pool) (literalsOf (procedureWords body (linkOf st name locals)))) in
     record { sector = omega (arith, f .sector); space = omega (arith, f .space) }

@@ -14,14 +14,14 @@ use Rattle.memory_map.proofs.Room.{space-fits, sector-fits, next-follow
 
 abbrev pub Needs : Allocation → Declaration → Type 0
 Needs st (Declaration.item name item) = st .scope .taken ≤ 384
-Needs st (Declaration.array name size values) = (st .scope .taken ≤ 384) × (size ≤ 8192) × (size ≤ st .array)
+Needs st (Declaration.array name size checked values) = (st .scope .taken ≤ 384) × (size ≤ 8192) × (size ≤ st .array)
 Needs st (Declaration.procedure name accumulator locals body) = (st .scope .taken ≤ 384) × (st .next ≤ st .array)
 Needs st Declaration.nextSector = st .next ≤ st .array
 
 needs-of : (st : Allocation) (ks : List Kind) (d : Declaration) → DeclarationOk st ks d → Needs st d
 unfolding allocate declarationLimit
 needs-of st ks (Declaration.item name item) h = let l = h .1 in omega arith
-needs-of st ks (Declaration.array name size values) h = let l = space-fits st size (h .4) in (omega (arith, h .0), h .1, omega arith)
+needs-of st ks (Declaration.array name size checked values) h = let l = space-fits st size (h .4) in (omega (arith, h .0), h .1, omega arith)
 needs-of st ks (Declaration.procedure name accumulator locals body) h =
     let l = sector-fits (allocate st (Declaration.procedure name accumulator locals body)) (h .3) .space in (omega (arith, h .0), omega arith)
 needs-of st ks Declaration.nextSector h = let l = next-follows st h .0 .space in omega arith
@@ -49,14 +49,14 @@ main-below p w = let st = allocated (p .declarations) in let l = main-fits st (p
 pub words-up : (st : Allocation) (d : Declaration) → st .scope .taken ≤ allocate st d .scope .taken
 unfolding allocate declareItem declare
 words-up st (Declaration.item name item) = omega arith
-words-up st (Declaration.array name size values) = omega arith
+words-up st (Declaration.array name size checked values) = omega arith
 words-up st (Declaration.procedure name accumulator locals body) = omega arith
 words-up st Declaration.nextSector = le-refl _
 
 pub array-down : (st : Allocation) (d : Declaration) → allocate st d .array ≤ st .array
 unfolding allocate
 array-down st (Declaration.item name item) = le-refl _
-array-down st (Declaration.array name size values) = omega arith
+array-down st (Declaration.array name size checked values) = omega arith
 array-down st (Declaration.procedure name accumulator locals body) = le-refl _
 array-down st Declaration.nextSector = le-refl _
 

@@ -113,8 +113,8 @@ module _ (p : Program) where
   closing (Declaration.item name item ∷ ds) st ks m h =
       let d = Declaration.item name item in
       earlier st d refl (same (st .pool)) (omega arith) (closing ds (allocate st d) (ks ++ kindsOf (d ∷ [])) (placing p st d m) (next p st ks d ds m h))
-  closing (Declaration.array name size values ∷ ds) st ks m h =
-      let d = Declaration.array name size values in
+  closing (Declaration.array name size checked values ∷ ds) st ks m h =
+      let d = Declaration.array name size checked values in
       earlier st d refl (same (st .pool)) (omega arith) (closing ds (allocate st d) (ks ++ kindsOf (d ∷ [])) (placing p st d m) (next p st ks d ds m h))
   closing (Declaration.procedure name accumulator locals body ∷ ds) st ks m h =
       let d = Declaration.procedure name accumulator locals body in

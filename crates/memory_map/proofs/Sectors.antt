@@ -19,7 +19,7 @@ pub open-grows : (st : Allocation) (ds : List Declaration) (main : Stmts) → Ex
 unfolding plansFrom allocate finish
 open-grows st [] main = added-all-end (st .pool) (literalsOf (mainWords main (st .next)))
 open-grows st (Declaration.item name item ∷ ds) main = open-grows (allocate st (Declaration.item name item)) ds main
-open-grows st (Declaration.array name size values ∷ ds) main = open-grows (allocate st (Declaration.array name size values)) ds main
+open-grows st (Declaration.array name size checked values ∷ ds) main = open-grows (allocate st (Declaration.array name size checked values)) ds main
 open-grows st (Declaration.procedure name accumulator locals body ∷ ds) main =
     joined (added-all-end (st .pool) (literalsOf (procedureWords body (linkOf st name locals)))) (open-grows (allocate st (Declaration.procedure name accumulator locals body)) ds main)
 open-grows st (Declaration.nextSector ∷ ds) main = same (st .pool)
@@ -30,7 +30,7 @@ ends-from : (st : Allocation) (ds : List Declaration) (main : Stmts)
 unfolding plansFrom allocate finish
 ends-from st [] main = refl
 ends-from st (Declaration.item name item ∷ ds) main = ends-from (allocate st (Declaration.item name item)) ds main
-ends-from st (Declaration.array name size values ∷ ds) main = ends-from (allocate st (Declaration.array name size values)) ds main
+ends-from st (Declaration.array name size checked values ∷ ds) main = ends-from (allocate st (Declaration.array name size checked values)) ds main
 ends-from st (Declaration.procedure name accumulator locals body ∷ ds) main = ends-from (allocate st (Declaration.procedure name accumulator locals body)) ds main
 ends-from st (Declaration.nextSector ∷ ds) main = sym (append-assoc (st .ends) (st .next ∷ []) _) ∙ ends-from (allocate st Declaration.nextSector) ds main
 
@@ -44,7 +44,7 @@ pool-ends p k =
 ends-step : (st : Allocation) (d : Declaration) → length (st .ends) ≤ length (allocate st d .ends)
 unfolding allocate
 ends-step st (Declaration.item name item) = le-refl (length (st .ends))
-ends-step st (Declaration.array name size values) = le-refl (length (st .ends))
+ends-step st (Declaration.array name size checked values) = le-refl (length (st .ends))
 ends-step st (Declaration.procedure name accumulator locals body) = le-refl (length (st .ends))
 ends-step st Declaration.nextSector = omega (arith, length-append (st .ends) (st .next ∷ []))
 
@@ -58,7 +58,7 @@ plan-at : (st : Allocation) (before rest : List Declaration) (main : Stmts) (k :
 unfolding plansFrom allocate
 plan-at st [] rest main k e = let z : k ≡ 0 = omega arith in rw z
 plan-at st (Declaration.item name item ∷ ds) rest main k e = plan-at (allocate st (Declaration.item name item)) ds rest main k e
-plan-at st (Declaration.array name size values ∷ ds) rest main k e = plan-at (allocate st (Declaration.array name size values)) ds rest main k e
+plan-at st (Declaration.array name size checked values ∷ ds) rest main k e = plan-at (allocate st (Declaration.array name size checked values)) ds rest main k e
 plan-at st (Declaration.procedure name accumulator locals body ∷ ds) rest main k e = plan-at (allocate st (Declaration.procedure name accumulator locals body)) ds rest main k e
 plan-at st (Declaration.nextSector ∷ ds) rest main zero e =
     absurd (omega (arith, ends-grow (allocate st Declaration.nextSector) ds, length-append (st .ends) (st .next ∷ [])))

@@ -1,18 +1,19 @@
 -- No cell and no link stands twice in the map of a program.
 use Prim.Native.Nat.{ℕ, _+_, _-_, _≤_}
 use mathlib.Core.Path.{_≡_, refl, sym, ap, subst, _∙_}
-use mathlib.Core.List.{List, [], _∷_, _++_, map}
+use mathlib.Core.List.{List, _++_, map}
 use native.Mathlib.Nat.{zero-add, le-refl, le-trans}
 use native.Mathlib.Omega.{arith}
 use lib.ListN.{length, getD, replicate, length-replicate}
 use Rattle.tree.specs.Tree.{Id, CellId, Name, Item, Declaration, Program}
 use Rattle.layout.specs.Words.{procedureWords, mainWords}
 use Rattle.layout.specs.Allocation.{Allocation, start, localWords, linkOf, allocated}
-use Rattle.layout.specs.Map.{Role, Plan, frame, wordOf, fixedWords, placed, localItems, placeDeclaration, placeAll, planOf, mapOf, mapAt}
+use Rattle.layout.specs.Map.{Role, Plan, frame, fixedWords, placed, localItems, placeDeclaration, placeAll, planOf, front, mapOf, mapAt}
 use Rattle.layout.specs.Map as map
 use Rattle.parsing_laws.specs.WellFormed.{WellFormed}
-use Rattle.memory_map.proofs.Belonging.{Spots, AtHome, at-home, homes-append, homes-fixed, homes-free, Settled, settle, item-home, locals-home, elements-home}
+use Rattle.memory_map.proofs.Belonging.{Spots, AtHome, at-home, homes-append, homes-pool, homes-code, homes-free, saved-home, Settled, settle, item-home, locals-home, elements-home}
 use Rattle.memory_map.proofs.Belonging as homes
+use Rattle.memory_map.proofs.Placed.{frontWords}
 use Rattle.memory_map.proofs.DeclarationWords.{local-length}
 use Rattle.memory_map.proofs.RoomBefore.{Needs, AllFit, all-fit, main-below, array-down, arrays-down}
 use Rattle.memory_map.proofs.RoomBefore as fit
@@ -28,10 +29,10 @@ local-words st name ls q = sym (local-length st name q ls)
 module _ (f : Spots) (n : ℕ) (big : 16384 ≤ n) where
   declaration-settled : (plan : Plan) (st : Allocation) (d : Declaration) (m : List Role) → st .array ≤ 16383 → Needs st d → Spotted f st d → Settled f n m
       → Settled f n (placeDeclaration plan st d m)
-  unfolding placeDeclaration fixedWords
+  unfolding placeDeclaration
   declaration-settled plan st (Declaration.item name item) m low h s g =
       settle (0o200 + st .scope .taken) (omega arith) g (item-home (Id.global (st .scope .taken)) item _ refl)
-  declaration-settled plan st (Declaration.array name size values) m low h s g =
+  declaration-settled plan st (Declaration.array name size checked values) m low h s g =
       let k : ℕ = st .array - size in
       let fits : size ≤ st .array = h .2 in
       let small : size ≤ 8192 = h .1 in
@@ -47,9 +48,9 @@ module _ (f : Spots) (n : ℕ) (big : 16384 ≤ n) where
       let after : st .next + length (localItems q 0 locals) ≡ f q .1 = omega arith in
       settle (st .next) (omega arith) (settle (0o200 + q) (omega (arith, h .0)) g (homes.more tt homes.none))
       (homes-append (locals-home q 0 locals (st .next) first) refl
-      (homes.more after (homes-fixed (wordOf (frame plan (st .next))) (procedureWords body (linkOf st name locals)) _)))
+      (homes.more after (homes-code (frame plan (st .next)) (procedureWords body (linkOf st name locals)) _)))
   declaration-settled plan st Declaration.nextSector m low h s g =
-      settle (st .next) (omega arith) g (homes-fixed (λ (v : ℕ). v) (st .pool) (st .next))
+      settle (st .next) (omega arith) g (homes-pool (st .pool) (st .next))
 
   all-settled : (plan : ℕ → Plan) {st : Allocation} {ds : List Declaration} (m : List Role) → st .array ≤ 16383 → AllFit st ds → AllSpotted f st ds → Settled f n m
       → Settled f n (placeAll plan st ds m)
@@ -65,11 +66,11 @@ module _ (f : Spots) (n : ℕ) (big : 16384 ≤ n) where
 unfoldable built : Program → ℕ → List Role
 built p n =
     let plan = planOf p (length (map.declared p .ends)) in
-    placed (placeAll (planOf p) start (p .declarations) (placed (replicate n Role.free) 0 (Role.cell (CellId.named Id.x) 0 ∷ []))) (map.declared p .next)
+    placed (placeAll (planOf p) start (p .declarations) (placed (replicate n Role.free) 0 (frontWords p))) (map.declared p .next)
     (fixedWords (frame plan (map.declared p .next)) (mainWords (p .main) (map.declared p .next)) ++ map Role.fixed (plan .pool))
 
 map-built : (p : Program) → mapOf p ≡ built p 16384
-unfolding mapOf built
+unfolding mapOf built front
 map-built p = refl
 
 module _ (p : Program) (w : WellFormed p) where
@@ -77,7 +78,7 @@ module _ (p : Program) (w : WellFormed p) where
   spots = spotsFrom start (p .declarations)
 
   built-settled : (n : ℕ) → 16384 ≤ n → Settled spots n (built p n)
-  unfolding built map.declared allocated fixedWords
+  unfolding built map.declared allocated
   built-settled n big =
       let below = main-below p w in
       let array = arrays-down start (p .declarations) in
@@ -86,8 +87,8 @@ module _ (p : Program) (w : WellFormed p) where
       let at : ℕ = map.declared p .next in
       settle at (omega arith)
       (all-settled spots n big (planOf p) _ (le-refl _) (all-fit (w .declarations)) (all-spotted start (p .declarations))
-      (settle 0 (omega arith) free (homes.more refl homes.none)))
-      (homes-append (homes-fixed (wordOf (frame plan at)) (mainWords (p .main) at) at) refl (homes-fixed (λ (v : ℕ). v) (plan .pool) _))
+      (settle 0 (omega arith) free (homes.more refl (homes.more tt (homes.more (saved-home spots (p .checked) 2) homes.none)))))
+      (homes-append (homes-code (frame plan at) (mainWords (p .main) at) at) refl (homes-pool (plan .pool) _))
 
   at-spot : (k : ℕ) (c : Role) → mapAt p k ≡ c → AtHome spots k c
   at-spot k c e =

@@ -83,7 +83,7 @@ pub laid : (st : Allocation) (ks : List Kind) (d : Declaration) (plan : Plan) (m
 unfolding placeDeclaration allocate
 laid st ks (Declaration.item name item) plan m r f h size =
     lay-global st r m size (itemWords (Id.global (st .scope .taken)) item) (omega (arith, item-length (Id.global (st .scope .taken)) item, h .1))
-laid st ks (Declaration.array name values-size values) plan m r f h size =
+laid st ks (Declaration.array name values-size checked values) plan m r f h size =
     let number = st .scope .taken in
     let a = lay-global st r m size (Role.fixed (0o40000 + st .array) ∷ []) (omega (arith, h .0)) in
     let l : length (elements number (65536 - values-size) values-size values) ≡ values-size = elements-length number (65536 - values-size) values-size values in
@@ -107,9 +107,9 @@ unfolding allocate declareItem declare
 outside-on st ks (Declaration.item name item) k r h (Outside.global l) = Outside.global (omega arith)
 outside-on st ks (Declaration.item name item) k r h (Outside.code l u) = Outside.code l u
 outside-on st ks (Declaration.item name item) k r h (Outside.array l) = Outside.array l
-outside-on st ks (Declaration.array name size values) k r h (Outside.global l) = Outside.global (omega arith)
-outside-on st ks (Declaration.array name size values) k r h (Outside.code l u) = Outside.code l u
-outside-on st ks (Declaration.array name size values) k r h (Outside.array l) = Outside.array (omega arith)
+outside-on st ks (Declaration.array name size checked values) k r h (Outside.global l) = Outside.global (omega arith)
+outside-on st ks (Declaration.array name size checked values) k r h (Outside.code l u) = Outside.code l u
+outside-on st ks (Declaration.array name size checked values) k r h (Outside.array l) = Outside.array (omega arith)
 outside-on st ks (Declaration.procedure name accumulator locals body) k r h (Outside.global l) = Outside.global (omega arith)
 outside-on st ks (Declaration.procedure name accumulator locals body) k r h (Outside.code l u) = Outside.code l (omega arith)
 outside-on st ks (Declaration.procedure name accumulator locals body) k r h (Outside.array l) = Outside.array l

@@ -8,7 +8,7 @@ use Rattle.memory_map.specs.Laid.{Known}
 -- each with its number, the latest first
 unfoldable pub withProcedure : ℕ → Known → Declaration → Known
 withProcedure n ps (Declaration.item name item) = ps
-withProcedure n ps (Declaration.array name size values) = ps
+withProcedure n ps (Declaration.array name size checked values) = ps
 withProcedure n ps (Declaration.procedure name accumulator locals body) = (n, body) ∷ ps
 withProcedure n ps Declaration.nextSector = ps
 

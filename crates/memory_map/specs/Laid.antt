@@ -1,6 +1,6 @@
 -- The words of each form as a relation (group W of docs/REFERENCE.md): a part of a program stands in a memory map from address a up to (not including) b.
 -- It says nothing of how addresses were chosen.
-use Prim.Native.Nat.{ℕ, suc, _+_, _%_, _<_}
+use Prim.Native.Nat.{ℕ, suc, _+_, _%_, _≤_, _<_}
 use mathlib.Core.Path.{_≡_}
 use mathlib.Core.Bool.{Bool, true, false}
 use mathlib.Core.List.{List, [], _∷_}
@@ -12,11 +12,11 @@ use Rattle.instruction.specs.Field.{indirectOf, tagOf}
 use Rattle.instruction.specs.declared.Instruction.{Instruction}
 use Rattle.instruction.specs.declared.Instruction.the-variants.{Memory, Shift, Generic}
 use Rattle.machine.specs.Address.{baseOf}
-use Rattle.tree.specs.Tree.{Id, CellId, Array, Operand, Subscript, Cell, Unary, Operation, Expr, Term, Cond, Target, Stmt, Stmts, isInside}
+use Rattle.tree.specs.Tree.{Id, CellId, Array, Operand, Subscript, Cell, Unary, Operation, Expr, Term, Cond, Target, Stmt, Stmts, isInside, lowest}
 use Rattle.tree.specs.Tree as tree
-use Rattle.layout.specs.Words.{Plain, Control, unaryPlain, operatorForm, shiftPlain, testSlot, bareSlot, controls, targetCell}
+use Rattle.layout.specs.Words.{after, mainWords, Plain, Control, unaryPlain, operatorForm, shiftPlain, testSlot, bareSlot, controls, targetCell}
 use Rattle.layout.specs.Map.{Role}
-use Rattle.layout.specs.Addresses.{memoryWords}
+use Rattle.layout.specs.Addresses.{memoryWords, savedWord}
 
 abbrev pub Map : Type 0
 Map = ℕ → Role
@@ -34,6 +34,11 @@ pub record Sits (M : Map) (a : ℕ) (i : Instruction) : Type 0 where
   pub here : M a ≡ Role.fixed word
   pub decodes : decodeDef word ≡ i
 
+-- the word at a is the HLT of a subscript's test
+pub record Stops (M : Map) (a : ℕ) : Type 0 where
+  pub below : suc a < memoryWords
+  pub here : M a ≡ Role.stop
+
 -- the fixed word at a is a memory reference, without tag, to the address k
 pub record Refers (M : Map) (a opcode : ℕ) (indirect : Bool) (k : ℕ) : Type 0 where
   pub sector : Bool
@@ -46,9 +51,10 @@ pub data Direct (M : Map) : Operand → ℕ → Type 0 where
   named : {i : Id} {k v : ℕ} → k < memoryWords → M k ≡ Role.cell (CellId.named i) v → Direct M (Operand.named i) k
   literal : {v k : ℕ} → k < memoryWords → v < 65536 → M k ≡ Role.fixed v → Direct M (Operand.literal v) k
 
--- an array word: no indirect flag, the tag, and the address of element 0 (A3), below which the elements stand (A5)
+-- an array word: no indirect flag, the tag, and the address of element 0 (A3), below which the elements stand (A5), at most 8,192, so that -size as a signed word is below 0 if there are any
 pub record ArrayWord (M : Map) (a : Array) (k : ℕ) : Type 0 where
   pub below : k < memoryWords
+  pub small : a .size ≤ 8192
   pub word : ℕ
   pub here : M k ≡ Role.fixed word
   pub straight : indirectOf word ≡ false
@@ -73,10 +79,36 @@ pub data Knows : Known → ℕ → Type 0 where
   earlier : {p q : ℕ} {s : Stmts} {ps : Known} → Knows ps p → Knows ((q, s) ∷ ps) p
 
 module _ (M : Map) where
-  -- the LDX of an array's subscript; the array is there for what may come after it (W2)
-  pub data LaidSubscript (r : Array) : Subscript → ℕ → ℕ → Type 0 where
-    by : {o : Operand} {a k : ℕ} → Refers M a LDX false k → Direct M o k → LaidSubscript r (Subscript.by o) a (suc a)
-    hash : {a : ℕ} → LaidSubscript r Subscript.hash a a
+  -- the LDX of a subscript (W2)
+  pub data LaidLoad : Subscript → ℕ → ℕ → Type 0 where
+    by : {o : Operand} {a k : ℕ} → Refers M a LDX false k → Direct M o k → LaidLoad (Subscript.by o) a (suc a)
+    hash : {a : ℕ} → LaidLoad Subscript.hash a a
+
+  -- the ten words of a test from a on, in their order; `high` and `low` are where -1 and -size stand (W19)
+  pub record TestWords (r : Array) (a : ℕ) : Type 0 where
+    pub high : ℕ
+    pub low : ℕ
+    pub save : Refers M a STA false savedWord
+    pub load : Refers M (suc a) LDA false 0
+    pub compare-high : Refers M (suc (suc a)) CAS false high
+    pub at-high : Direct M (Operand.literal 65535) high
+    pub stop-above : Stops M (suc (suc (suc a)))
+    pub nop-equal : Sits M (suc (suc (suc (suc a)))) (Generic NOP)
+    pub compare-low : Refers M (suc (suc (suc (suc (suc a))))) CAS false low
+    pub at-low : Direct M (Operand.literal (lowest r)) low
+    pub nop-over : Sits M (suc (suc (suc (suc (suc (suc a)))))) (Generic NOP)
+    pub skip : Sits M (suc (suc (suc (suc (suc (suc (suc a))))))) (Generic SKP)
+    pub stop-below : Stops M (suc (suc (suc (suc (suc (suc (suc (suc a))))))))
+    pub restore : Refers M (suc (suc (suc (suc (suc (suc (suc (suc (suc a))))))))) LDA false savedWord
+
+  -- the test of a subscript, if the array's are tested; word 2 is for that only in a program that has such tests (W19, A12)
+  pub data LaidTest (r : Array) : ℕ → ℕ → Type 0 where
+    none : {a : ℕ} → r .checked ≡ false → M savedWord ≡ Role.free → LaidTest r a a
+    words : {a : ℕ} → r .checked ≡ true → M savedWord ≡ Role.saved → TestWords r a → LaidTest r a (suc (suc (suc (suc (suc (suc (suc (suc (suc (suc a))))))))))
+
+  -- a subscript of an array: its LDX, and its test (W2, W19)
+  pub data LaidSubscript (r : Array) (s : Subscript) : ℕ → ℕ → Type 0 where
+    both : {a m b : ℕ} → LaidLoad s a m → LaidTest r m b → LaidSubscript r s a b
 
   -- a cell's own words go from a to m; the instruction at m then has the indirect flag i and refers to k (W1, W2)
   pub data LaidCell : Cell → ℕ → ℕ → Bool → ℕ → Type 0 where
@@ -193,10 +225,11 @@ module _ (M : Map) where
     none : LaidProcedures []
     more : {p : ℕ} {body : Stmts} {ps : Known} → LaidProcedure ps p body → (Knows ps p → ⊥) → LaidProcedures ps → LaidProcedures ((p, body) ∷ ps)
 
--- a whole program, with its entry: its main body ends in HLT (W17)
+-- a whole program, with its entry: its main body ends in HLT, the last of its words (W17)
 pub record LaidProgram (M : Map) (ps : Known) (main : Stmts) (entry : ℕ) : Type 0 where
   pub sound : Sound M
   pub procedures : LaidProcedures M ps
   pub last : ℕ
   pub statements : LaidStmts M ps main entry last
-  pub stop : Sits M last (Generic HLT)
+  pub halt : Sits M last (Generic HLT)
+  pub end : suc last ≡ after (mainWords main entry) entry

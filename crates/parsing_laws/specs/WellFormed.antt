@@ -1,6 +1,7 @@
 -- What holds of every program that is accepted: each name in the tree is declared, nesting and numbers are in range, and everything fits.
 use Prim.Native.Nat.{ℕ, zero, suc, _+_, _≤_, _<_}
 use mathlib.Core.Path.{_≡_}
+use mathlib.Core.Bool.{Bool}
 use mathlib.Core.List.{List, [], _∷_, _++_}
 use lib.ListN.{length, getD}
 use Rattle.tree.specs.Tree.{Id, Array, Operand, Subscript, Cell, Operation, Expr, Term, Cond, Target, Stmt, Stmts, Name, Item, Declaration, Program}
@@ -17,10 +18,10 @@ All P (a ∷ rest) = P a × All P rest
 
 -- ---- What a body may name
 
--- what a word of sector 0 is of; `none` past the last
+-- what a word of sector 0 is of: an array with its size and whether its subscripts are tested; `none` past the last
 pub data Kind : Type 0 where
   cell : Kind
-  array : ℕ → Kind
+  array : ℕ → Bool → Kind
   procedure : Kind
   none : Kind
 
@@ -43,7 +44,7 @@ OperandOk x (Operand.named i) = IdOk x i
 OperandOk x (Operand.literal v) = v < 65536
 
 abbrev pub ArrayOk : Context → Array → Type 0
-ArrayOk x a = kindAt x (a .number) ≡ Kind.array (a .size)
+ArrayOk x a = kindAt x (a .number) ≡ Kind.array (a .size) (a .checked)
 
 abbrev pub ProcedureOk : Context → ℕ → Type 0
 ProcedureOk x p = kindAt x p ≡ Kind.procedure
@@ -137,7 +138,7 @@ itemKinds (Item.compconstant v) = []
 unfoldable pub kindsOf : List Declaration → List Kind
 kindsOf [] = []
 kindsOf (Declaration.item name item ∷ ds) = itemKinds item ++ kindsOf ds
-kindsOf (Declaration.array name size values ∷ ds) = Kind.array size ∷ kindsOf ds
+kindsOf (Declaration.array name size checked values ∷ ds) = Kind.array size checked ∷ kindsOf ds
 kindsOf (Declaration.procedure name accumulator locals body ∷ ds) = Kind.procedure ∷ kindsOf ds
 kindsOf (Declaration.nextSector ∷ ds) = kindsOf ds
 
@@ -156,7 +157,7 @@ WordsOk vs = All (λ (v : ℕ). v < 65536) vs
 -- a declaration under the allocation and the kinds of those before it: its word of sector 0, its values, its body, and its space
 abbrev pub DeclarationOk : Allocation → List Kind → Declaration → Type 0
 DeclarationOk st kinds (Declaration.item name item) = ValueOk item × (st .scope .taken + length (itemKinds item) ≤ globalWords)
-DeclarationOk st kinds (Declaration.array name size values) =
+DeclarationOk st kinds (Declaration.array name size checked values) =
     (st .scope .taken < globalWords) × (size ≤ 8192) × (length values ≤ size) × WordsOk values × (spaceLimit st size ≡ 0)
 DeclarationOk st kinds (Declaration.procedure name accumulator locals body) =
     (st .scope .taken < globalWords) × LocalsOk locals
@@ -168,8 +169,16 @@ pub data DeclarationsOk : List Declaration → Type 0 where
   none : DeclarationsOk []
   more : (ds : List Declaration) (d : Declaration) → DeclarationsOk ds → DeclarationOk (allocated ds) (kindsOf ds) d → DeclarationsOk (ds ++ (d ∷ []))
 
+-- an array's subscripts are tested exactly if the program's are (D17)
+abbrev pub Flagged : Bool → Declaration → Type 0
+Flagged checked (Declaration.item name item) = Unit {0}
+Flagged checked (Declaration.array name size flag values) = flag ≡ checked
+Flagged checked (Declaration.procedure name accumulator locals body) = Unit {0}
+Flagged checked Declaration.nextSector = Unit {0}
+
 pub record WellFormed (p : Program) : Type 0 where
   pub declarations : DeclarationsOk (p .declarations)
+  pub flags : All (Flagged (p .checked)) (p .declarations)
   pub main : StmtsBy (StmtOk (record { globals = kindsOf (p .declarations); own = 0; locals = 0 }) 33) (p .main)
   pub fits : mainLimit (allocated (p .declarations)) (p .main) ≡ 0
 

@@ -21,6 +21,7 @@ use Rattle.tree.specs.Tree.{Item, Declaration, Program}
 use Rattle.tree.specs.Symbols as symbols
 use Rattle.layout.specs.Allocation as layout
 use Rattle.layout.specs.Allocation.{allocated}
+use Rattle.layout.specs.Map.{declared, finished}
 use Rattle.grammar.specs.Parse.Got.{got}
 use Rattle.parser.specs.declared.Part.{Part}
 use Rattle.emitter.specs.declared.Output.{Output}
@@ -36,6 +37,9 @@ use Rattle.symbols.specs.declared.Id.{Id}
 use Rattle.symbols.specs.declared.Symbol.{Symbol}
 use Rattle.symbols.proofs.Id as id
 use Rattle.symbols.proofs.Symbol as symbol
+use Rattle.machine.specs.declared.Outcome.{Outcome}
+use Rattle.machine.proofs.Outcome as outcome
+use Rattle.report.specs.Shown.{stopsBy}
 use Rattle.report.specs.Globals.{elementHead, elementEnd, elementText, elementsText, arrayText, idText, symbolText, sizeOf, nextArray, namesText, declarationText, globalsText}
 
 -- ---- Bytes without the zeros at their end
@@ -98,6 +102,13 @@ module _ (memory name : List ℕ) where
   no-id (Id.Global n) h = absurd (miss (0 ∷ 2 ∷ []) 1 tt h)
   no-id (Id.Local p n) h = refl
 
+-- only a run that halted may have stopped at a subscript
+pub no-stop : (checked : Bool) (end : ℕ) (o : Outcome) (at : ℕ) → OneOf (1 ∷ 2 ∷ []) (tagOf outcome.the-type o) → false ≡ stopsBy checked end o at
+unfolding stopsBy
+no-stop checked end Outcome.Halted at h = absurd (miss (1 ∷ 2 ∷ []) 0 tt h)
+no-stop checked end Outcome.Spent at h = refl
+no-stop checked end (Outcome.Failed n) at h = refl
+
 -- ---- Elements
 
 pub row-starts : (name : List ℕ) (column k : ℕ) → column ≡ 0 → name ++ (bytes "[-" ++ (decimal k ++ bytes "] = ")) ≡ elementHead name column k
@@ -157,17 +168,17 @@ module _ (memory table : List ℕ) (i : ℕ) {name : List ℕ} {symbol : symbols
   unfolding nextArray entriesOf
   next-array z = rw (add-one i, z, e, a, row-is)
 
--- ---- The names of the program that was read
+-- ---- The program that was read
 
-pub names-read : (source table : List ℕ) {s : Allocation} {output : Output} {plan : SectorEnds} {image image' table' : List ℕ} {part : Part}
-    → Declares (ProgramEmitted plan image s output table' image') part (programOn source table) → tableWords ≤ length table → length table' ≡ length table
-    → (p : Program) (n : ℕ) → programIn source ≡ got p n → (7 * s .names ≤ length table') × (entriesOf (s .names) table' ≡ allocated (p .declarations) .scope .names)
-unfolding liveNames
-names-read source table {s} {table' = table'} r room k p n e =
+pub program-read : (source table : List ℕ) {flag : Bool} {s : Allocation} {output : Output} {plan : SectorEnds} {image image' table' : List ℕ} {part : Part}
+    → Declares (ProgramEmitted plan image flag s output table' image') part (programOn source table) → tableWords ≤ length table → length table' ≡ length table
+    → (p : Program) (n : ℕ) → programIn source ≡ got p n → (7 * s .names ≤ length table') × (entriesOf (s .names) table' ≡ allocated (p .declarations) .scope .names) × (flag ≡ p .checked) × (output .next ≡ finished p .next)
+unfolding liveNames finished declared
+program-read source table {s} {table' = table'} r room k p n e =
     let done = again p n (on-table source table room ∙ e) r in
     let few = done .sound .few in
     let inside : s .names ≤ length table' / 7 = omega (arith, room, k, few) in
-    (omega (arith, inside), rw (le-leb _ _ inside) at (ap (λ st. st .scope .names) (done .allocation)))
+    (omega (arith, inside), rw (le-leb _ _ inside) at (ap (λ st. st .scope .names) (done .allocation)), done .checked, done .next)
 
 -- ---- The names as declarations
 
@@ -180,7 +191,7 @@ module _ (memory : List ℕ) where
   keeps st (Declaration.item name Item.integer) h = (h .0, h .1 ∙ sym (sub-zero _))
   keeps st (Declaration.item name (Item.constant v)) h = (h .0, h .1 ∙ sym (sub-zero _))
   keeps st (Declaration.item name (Item.compconstant v)) h = (h .0, h .1 ∙ sym (sub-zero _))
-  keeps st (Declaration.array name size values) h = (h .0, ap (λ a. a - size) (h .1))
+  keeps st (Declaration.array name size checked values) h = (h .0, ap (λ a. a - size) (h .1))
   keeps st (Declaration.procedure name accumulator locals body) h = (h .0, h .1 ∙ sym (sub-zero _))
   keeps st Declaration.nextSector h = h
 
@@ -190,7 +201,7 @@ module _ (memory : List ℕ) where
   one-more st (Declaration.item name Item.integer) h = rw (h .0)
   one-more st (Declaration.item name (Item.constant v)) h = refl
   one-more st (Declaration.item name (Item.compconstant v)) h = refl
-  one-more st (Declaration.array name size values) h = rw (h .1)
+  one-more st (Declaration.array name size checked values) h = rw (h .1)
   one-more st (Declaration.procedure name accumulator locals body) h = refl
   one-more st Declaration.nextSector h = sym (append-nil _)
 

@@ -5,7 +5,7 @@ use mathlib.Core.Path.{_≡_, refl}
 use mathlib.Core.Bool.{Bool, true, false}
 use mathlib.Core.List.{List, [], _∷_, map}
 use lib.ListN.{take, drop, set, replicate}
-use Rattle.word.specs.Arithmetic.{sumOf}
+use Rattle.word.specs.Arithmetic.{sumOf, compareOf}
 use Rattle.instruction.specs.Table.{generics}
 use Rattle.instruction.specs.Decode.{findWord, genericOf, shiftOf, memoryOf, decodeDef}
 use Rattle.effect.specs.declared.Switches.{Switches}
@@ -28,7 +28,7 @@ use Rattle.compilation.specs.Computed as compilation
 use Rattle.failure_report.specs.Place.{newlinesBefore, lineStart, visible}
 use Rattle.failure_report.specs.Failure.{wordsOf, placeText, failureText}
 use Rattle.report.specs.Globals.{integerText, elementHead, elementEnd, elementsText, arrayText, declarationText, globalsText, sizeOf, nextArray, idText, symbolText, namesText}
-use Rattle.report.specs.Shown.{outcomeText, stepsText, bitText, registersText, runText, shownOf, imageShown}
+use Rattle.report.specs.Shown.{outcomeText, stopsBy, endText, stepsText, bitText, registersText, runText, shownOf, imageShown}
 
 -- ---- Arrays (O6)
 
@@ -67,13 +67,13 @@ abbrev declarations : List Declaration
 declarations =
     Declaration.item (bytes "I") Item.integer
     ∷ Declaration.item (bytes "K") (Item.constant 7)
-    ∷ Declaration.array (bytes "T") 3 []
+    ∷ Declaration.array (bytes "T") 3 false []
     ∷ Declaration.item (bytes "C") (Item.compconstant 8)
     ∷ Declaration.procedure (bytes "P") true ((bytes "L", Item.integer) ∷ []) (Stmts.one Stmt.empty)
     ∷ Declaration.nextSector
-    ∷ Declaration.array (bytes "U") 2 (1 ∷ [])
+    ∷ Declaration.array (bytes "U") 2 false (1 ∷ [])
     ∷ Declaration.item (bytes "LENGTH") Item.integer
-    ∷ Declaration.array (bytes "E") 0 []
+    ∷ Declaration.array (bytes "E") 0 true []
     ∷ Declaration.item (bytes "LAST") Item.integer
     ∷ []
 
@@ -110,7 +110,7 @@ unfolding symbolText idText
 not-shown = refl
 
 -- nor does such a name take a word of the arrays
-no-elements : map sizeOf (Symbol.unknown ∷ Symbol.array (record { number = 3; size = 5 }) ∷ []) ≡ 0 ∷ 5 ∷ []
+no-elements : map sizeOf (Symbol.unknown ∷ Symbol.array (record { number = 3; size = 5; checked = false }) ∷ []) ≡ 0 ∷ 5 ∷ []
 unfolding sizeOf
 no-elements = refl
 
@@ -125,6 +125,17 @@ outcomes :
     ∷ []
 unfolding outcomeText wordsOf find decimalBy
 outcomes = refl
+
+-- a stop: halted, with `.CHECKED`, and P not behind the last HLT (O11)
+stops :
+    stopsBy true 520 Halted 517 ∷ stopsBy true 520 Halted 520 ∷ stopsBy false 520 Halted 517 ∷ stopsBy true 520 Spent 517 ∷ stopsBy true 520 (Failed 20) 517 ∷ []
+    ≡ true ∷ false ∷ false ∷ false ∷ false ∷ []
+unfolding stopsBy
+stops = refl
+
+ends : endText true Halted 65532 ∷ endText false Halted 65532 ∷ [] ≡ bytes "stopped: a subscript left its array, X = -4, after " ∷ bytes "halted after " ∷ []
+unfolding endText outcomeText signed decimalBy
+ends = refl
 
 steps : map stepsText (0 ∷ 1 ∷ 2 ∷ 11 ∷ 1000000 ∷ []) ≡ bytes "0 steps\n" ∷ bytes "1 step\n" ∷ bytes "2 steps\n" ∷ bytes "11 steps\n" ∷ bytes "1000000 steps\n" ∷ []
 unfolding stepsText decimalBy
@@ -150,7 +161,7 @@ off = keys false false false false
 
 -- every definition that these rest on
 unfoldable computed : String → ℕ → Switches → List ℕ
-unfolding compilation.computed sumOf findWord generics genericOf shiftOf memoryOf decodeDef operateOf unaryOf skipsOf followOf memoryDef genericDef stepDef runFrom runDef turnsDef signed newlinesBefore lineStart visible wordsOf placeText failureText integerText elementHead elementEnd elementsText arrayText declarationText globalsText outcomeText stepsText bitText registersText runText shownOf imageShown
+unfolding compilation.computed sumOf compareOf findWord generics genericOf shiftOf memoryOf decodeDef operateOf unaryOf skipsOf followOf memoryDef genericDef stepDef runFrom runDef turnsDef signed newlinesBefore lineStart visible wordsOf placeText failureText integerText elementHead elementEnd elementsText arrayText declarationText globalsText outcomeText stopsBy endText stepsText bitText registersText runText shownOf imageShown
 computed source turns switches = shownOf (bytes source) (compileDef (bytes source)) turns switches
 
 abbrev shown : String → ℕ → Switches → List ℕ
@@ -195,6 +206,30 @@ failed-run :
     ≡ bytes "failed with 20, the word at P is no instruction; often a subscript left its array, after 3 steps\nregisters: A = 11264, B = 0, C = 0, X = -15868\nT[-1] = 0\n"
 unfolding computed
 failed-run = refl
+
+-- the same with `.CHECKED`: X and A are the subscript that was refused, and nothing is written
+stopped-run :
+    shown ".BEGIN .CHECKED; .ARRAY T[1]; T[-15868] = '26000 .END" 2 off
+    ≡ bytes "stopped: a subscript left its array, X = -15868, after 7 steps\nregisters: A = -15868, B = 0, C = 0, X = -15868\nT[-1] = 0\n"
+unfolding computed
+stopped-run = refl
+
+stopped-above :
+    shown ".BEGIN .CHECKED; .ARRAY T[2]; @ = T[5] .END" 1 off ≡ bytes "stopped: a subscript left its array, X = 5, after 5 steps\nregisters: A = 5, B = 0, C = 0, X = 5\nT[-2] = 0, 0\n"
+unfolding computed
+stopped-above = refl
+
+-- one that stays inside halts as ever
+checked-run :
+    shown ".BEGIN .CHECKED; .ARRAY T[2]; T[-2] = 5 .END" 1 off ≡ bytes "halted after 10 steps\nregisters: A = 5, B = 0, C = 0, X = -2\nT[-2] = 5, 0\n"
+unfolding computed
+checked-run = refl
+
+-- without `.CHECKED` a halt is a halt wherever it is: here the STA writes an HLT over the SSR that is next
+halted-elsewhere :
+    shown ".BEGIN .ARRAY T[1]; T[-15868] = 0; .WHILE .NOKEY .DO .END" 1 off ≡ bytes "halted after 4 steps\nregisters: A = 0, B = 0, C = 0, X = -15868\nT[-1] = 0\n"
+unfolding computed
+halted-elsewhere = refl
 
 failed-compile : shown ".BEGIN\nX = A .END" 1 off ≡ bytes "line 2, column 5: 7, name undeclared or of the wrong kind\nX = A .END\n    ^\n"
 unfolding computed

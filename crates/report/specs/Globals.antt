@@ -52,7 +52,7 @@ unfoldable pub declarationText : List ℕ → Allocation → Declaration → Lis
 declarationText memory st (Declaration.item name Item.integer) = integerText memory name (st .scope .taken)
 declarationText memory st (Declaration.item name (Item.constant v)) = []
 declarationText memory st (Declaration.item name (Item.compconstant v)) = []
-declarationText memory st (Declaration.array name size values) = arrayText memory name size (st .array)
+declarationText memory st (Declaration.array name size checked values) = arrayText memory name size (st .array)
 declarationText memory st (Declaration.procedure name accumulator locals body) = []
 declarationText memory st Declaration.nextSector = []
 

@@ -1,7 +1,7 @@
 -- What is shown of a source.
 use Prim.Native.Nat.{ℕ, _*_, _≤_}
 use mathlib.Core.Path.{_≡_}
-use mathlib.Core.Bool.{Bool, true, false}
+use mathlib.Core.Bool.{Bool, true, false, not, _&&_}
 use mathlib.Core.List.{List, _++_}
 use lib.Dec.{eqb}
 use lib.ListN.{length, getD, replicate}
@@ -16,6 +16,7 @@ use Rattle.machine.specs.State.{State, state}
 use Rattle.machine.specs.Run.{Ran}
 use Rattle.tree.specs.Tree.{Program}
 use Rattle.layout.specs.Allocation.{start, allocated}
+use Rattle.layout.specs.Map.{finished}
 use Rattle.grammar.specs.Parse.{Got}
 use Rattle.declarations.specs.Procedures.{programIn}
 use Rattle.compilation.specs.Compile.{Compiled, Result}
@@ -24,6 +25,7 @@ use Rattle.symbols.specs.Table.{entryWords, entriesOf}
 use Rattle.turns.specs.declared.Turned.{Turned}
 use Rattle.turns.specs.Turns.{startMachine, turnsDef, turnedOf}
 use Rattle.failure_report.specs.Failure.{wordsOf, failureText}
+use Rattle.report.specs.declared.run.ProgramFacts.{ProgramFacts}
 use Rattle.report.specs.Globals.{globalsText}
 
 -- how a run ended, a failure by its number and words (O4)
@@ -31,6 +33,19 @@ unfoldable pub outcomeText : Outcome → List ℕ
 outcomeText Outcome.Halted = bytes "halted after "
 outcomeText Outcome.Spent = bytes "spent: not halted after "
 outcomeText (Outcome.Failed n) = bytes "failed with " ++ (decimal n ++ (bytes ", " ++ (wordsOf n ++ bytes ", after ")))
+
+-- whether a run stopped at a subscript: with `.CHECKED` it halted, and P is not behind the main body's last HLT. By demand 3h and 3l it is then behind the HLT of a test (O11)
+unfoldable pub stopsBy : Bool → ℕ → Outcome → ℕ → Bool
+stopsBy checked end Outcome.Halted at = checked && not (eqb at end)
+stopsBy checked end Outcome.Spent at = false
+stopsBy checked end (Outcome.Failed n) at = false
+
+abbrev pub stopsIn : Program → Outcome → ℕ → Bool
+stopsIn p outcome at = stopsBy (p .checked) (finished p .next) outcome at
+
+-- how a run ended, with X where it stopped at a subscript (O4, O11)
+unfoldable pub endText : Bool → Outcome → ℕ → List ℕ
+endText stopped outcome x = whether stopped (λ _. bytes "stopped: a subscript left its array, X = " ++ (signed x ++ bytes ", after ")) (λ _. outcomeText outcome)
 
 -- the steps, and the end of the line (O4)
 unfoldable pub stepsText : ℕ → List ℕ
@@ -45,15 +60,17 @@ unfoldable pub registersText : Registers → ℕ → List ℕ
 registersText r x =
     bytes "registers: A = " ++ (signed (r .a) ++ (bytes ", B = " ++ (signed (r .b) ++ (bytes ", C = " ++ (bitText (r .c) ++ (bytes ", X = " ++ (signed x ++ newline)))))))
 
--- A RUN of a program: how its turns ended, their steps, the registers and the globals (O4 to O6)
+-- A RUN of a program: how its turns ended, their steps, the registers and the globals (O4 to O6, O11)
 unfoldable pub runText : Program → Turned → List ℕ → List ℕ
 runText p t memory =
-    outcomeText (t .outcome) ++ (stepsText (t .steps) ++ (registersText (t .machine .registers) (getD memory 0 0) ++ globalsText memory start (p .declarations)))
+    endText (stopsIn p (t .outcome) (t .machine .p)) (t .outcome) (getD memory 0 0) ++ (stepsText (t .steps) ++ (registersText (t .machine .registers) (getD memory 0 0) ++ globalsText memory start (p .declarations)))
 
--- so many names in a table are those of the program that a source is parsed as
-pub record NamesRead (source : List ℕ) (count : ℕ) (table : List ℕ) : Type 0 where
-  pub inside : entryWords * count ≤ length table
-  pub names : (p : Program) (n : ℕ) → programIn source ≡ Got.got p n → entriesOf count table ≡ allocated (p .declarations) .scope .names
+-- what is read of the program that a source is parsed as: its names, so many in a table; whether its subscripts are tested; and the address behind its last HLT
+pub record ProgramRead (source : List ℕ) (r : ProgramFacts) (table : List ℕ) : Type 0 where
+  pub inside : entryWords * r .names ≤ length table
+  pub names : (p : Program) (n : ℕ) → programIn source ≡ Got.got p n → entriesOf (r .names) table ≡ allocated (p .declarations) .scope .names
+  pub checked : (p : Program) (n : ℕ) → programIn source ≡ Got.got p n → r .checked ≡ p .checked
+  pub end : (p : Program) (n : ℕ) → programIn source ≡ Got.got p n → r .end ≡ finished p .next
 
 -- the program that a source is parsed as, shown after its turns
 abbrev pub ShowsRun : List ℕ → Turned → List ℕ → List ℕ → ℕ → List ℕ → Type 0

@@ -3,7 +3,8 @@ ghost use Prim.Native.Nat.{_≤_};
 ghost use lib.ListN.{length};
 ghost use Rattle.declarations.specs.Scopes.{tableWords};
 ghost use Rattle.digits.specs.Wrote.{Wrote};
-ghost use Rattle.report.specs.Shown.{outcomeText, stepsText, bitText, registersText, NamesRead, ShowsRun};
+ghost use Rattle.report.specs.Shown.{outcomeText, stopsBy, endText, stepsText, bitText, registersText, ProgramRead, ShowsRun};
+ghost use mathlib.Core.Path.{_≡_};
 use crate::globals::put_globals;
 use crate::globals::word_at;
 use declarations::SectorEnds;
@@ -67,10 +68,17 @@ fn put_registers(out: &mut [u8], at: usize, registers: Registers, x: u16) -> usi
     put_byte(out, eight, b'\n')
 }
 
-// The source read once more, on no image: how many names the table then holds.
-fn read_names(source: &[u8], table: &mut [u16]) -> usize
+// What is read of a program: how many names the table holds, whether its subscripts are tested, and the address behind its last HLT.
+pub struct ProgramFacts {
+    pub names: usize,
+    pub checked: bool,
+    pub end: u16,
+}
+
+// The source read once more, on no image.
+fn read_program(source: &[u8], table: &mut [u16]) -> ProgramFacts
     requires { ⌜ tableWords ≤ length (now table) ⌝ }
-    ensures { λ r. ⌜ NamesRead (now (source .entry)) r (now (table .exit)) ⌝ }
+    ensures { λ r. ⌜ ProgramRead (now (source .entry)) r (now (table .exit)) ⌝ }
 {
     let unplanned = SectorEnds {
         ends: [0u16; 32],
@@ -79,12 +87,45 @@ fn read_names(source: &[u8], table: &mut [u16]) -> usize
     let mut none = [0u16; 0];
     let read = program(source, table, &mut none, unplanned);
     let allocation = read.allocation;
-    let count = allocation.names;
+    let names = allocation.names;
+    let checked = read.checked;
+    let last = read.end;
+    let end = last.next;
     // Of a source that fails nothing is promised of the count, so it is held to what the table can have.
-    if table.len() / ENTRY < count {
-        return 0;
+    if table.len() / ENTRY < names {
+        return ProgramFacts {
+            names: 0,
+            checked,
+            end,
+        };
     }
-    count
+    ProgramFacts {
+        names,
+        checked,
+        end,
+    }
+}
+
+// Whether a run stopped at a subscript: it halted, and P is not behind the last HLT, where a program ends (O11).
+fn stops(read: ProgramFacts, outcome: Outcome, p: u16) -> bool
+    ensures { λ r. ⌜ r ≡ stopsBy (read .checked) (read .end) outcome p ⌝ }
+{
+    let Outcome::Halted = outcome else {
+        return false;
+    };
+    read.checked && p != read.end
+}
+
+// How a run ended, with X where it stopped at a subscript.
+fn put_ending(out: &mut [u8], stopped: bool, outcome: Outcome, x: u16) -> usize
+    ensures { λ r. ⌜ Wrote (now (out .entry)) (now (out .exit)) 0 r (endText stopped outcome x) ⌝ }
+{
+    if !stopped {
+        return put_outcome(out, outcome);
+    }
+    let one = put_text(out, 0, b"stopped: a subscript left its array, X = ");
+    let two = put_signed(out, one, x);
+    put_text(out, two, b", after ")
 }
 
 // What is shown of a program that was run; the table is filled.
@@ -101,9 +142,10 @@ pub fn put_run(
     let machine = ran.machine;
     let registers = machine.registers;
     let outcome = ran.outcome;
-    let one = put_outcome(out, outcome);
+    let x = word_at(image, 0);
+    let read = read_program(source, table);
+    let one = put_ending(out, stops(read, outcome, machine.p), outcome, x);
     let two = put_steps(out, one, ran.steps);
-    let three = put_registers(out, two, registers, word_at(image, 0));
-    let count = read_names(source, table);
-    put_globals(out, three, table, count, image)
+    let three = put_registers(out, two, registers, x);
+    put_globals(out, three, table, read.names, image)
 }

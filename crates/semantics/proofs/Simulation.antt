@@ -4,6 +4,7 @@ pub mod Relate
 pub mod Instructions
 pub mod Classes
 pub mod Control
+pub mod Tests
 pub mod Parts
 pub mod Expressions
 pub mod Statements

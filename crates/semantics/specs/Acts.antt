@@ -1,13 +1,14 @@
 -- The acts of the semantics, in the order of the words, each one step with the effect of the machine's own instruction (M4, M5).
-use Prim.Native.Nat.{ℕ, suc, _+_, _-_, _%_}
-use mathlib.Core.Bool.{Bool, true, false, cond}
+use Prim.Native.Nat.{ℕ, zero, suc, _+_, _-_, _%_}
+use mathlib.Core.Bool.{Bool, true, false, cond, not}
 use mathlib.Core.List.{List, [], _∷_}
-use lib.Dec.{eqb}
+use lib.Dec.{eqb, ltb}
+use Rattle.word.specs.Arithmetic.{bit}
 use Rattle.effect.specs.declared.Registers.{Registers}
 use Rattle.effect.specs.Effects.{operateOf, unaryOf, shiftedOf}
 use Rattle.effect.specs.Skips.{skipsOf}
 use Rattle.instruction.specs.Slot.{SPL, TCA}
-use Rattle.tree.specs.Tree.{Id, Array, Operand, Subscript, Cell, CellId, sameCell, isInside}
+use Rattle.tree.specs.Tree.{Id, Array, Operand, Subscript, Cell, CellId, sameCell, isInside, lowest}
 use Rattle.layout.specs.Words.{Plain}
 use Rattle.semantics.specs.Trace.{State, Trace, bind}
 
@@ -28,6 +29,10 @@ store i v σ = stepped (record { cells = updated (σ .cells) i v; registers = σ
 -- a step without any other effect: a skip, a NOP, a jump
 abbrev pub tick : State → State
 tick σ = stepped σ
+
+unfoldable pub ticks : ℕ → State → State
+ticks zero σ = σ
+ticks (suc n) σ = ticks n (tick σ)
 
 -- X as a cell, which is the index register too (M1)
 abbrev pub xCell : CellId
@@ -57,9 +62,25 @@ unfoldable pub subscripted : Subscript → State → State
 subscripted (Subscript.by o) σ = loadX (valueOf (placeOf o) σ) σ
 subscripted Subscript.hash σ = σ
 
--- the element that X names now; the meaning breaks off here if there is none (M9)
+-- X as an index: its lowest 16 bits, which is all that CAS compares; the definitions allow larger numbers in a memory, a machine has none
+abbrev pub index : State → ℕ
+index σ = σ .cells xCell % 65536
+
+-- how many of a test's ten words are done where X passes: STA, LDA, CAS, CAS, SKP and LDA, a NOP if X is -1, a NOP if it is above -size (M15)
+unfoldable pub passSteps : Array → ℕ → ℕ
+passSteps a x = 6 + bit (eqb x 65535) + bit (not (eqb x (lowest a)))
+
+-- and where it does not, with the HLT: four if X is 0 or more, else the second CAS too, and the NOP before it if X is -1, which only an array of none refuses; the size is of no account (M15)
+unfoldable pub stopSteps : ℕ → ℕ
+stopSteps x = cond (ltb x 32768) 4 (5 + bit (eqb x 65535))
+
+-- a test that is passed: steps, and nothing else; no step where subscripts are not tested (M15)
+unfoldable pub tested : Array → State → State
+tested a σ = cond (a .checked) (ticks (passSteps a (index σ)) σ) σ
+
+-- the element that X names now; the meaning breaks off here if there is none, ahead of the test (M9)
 unfoldable pub element : Array → State → Trace CellId
-element a σ = cond (isInside a (σ .cells xCell)) (Trace.done (CellId.element (a .number) (σ .cells xCell)) σ) (Trace.broke σ)
+element a σ = cond (isInside a (index σ)) (Trace.done (CellId.element (a .number) (index σ)) (tested a σ)) (Trace.broke σ)
 
 -- an array is entered: X loaded, unless it is `#`, and the element that it then names (M9)
 unfoldable pub entered : Array → Subscript → State → Trace CellId

@@ -10,18 +10,18 @@ use Rattle.effect.specs.Double.{multiplyOf, divideOf, longLeftOf, longRightOf}
 use Rattle.effect.specs.Effects.{operateOf, unaryOf}
 use Rattle.effect.specs.Skips.{skipsOf}
 use Rattle.prelude.specs.Text.{bytes}
-use Rattle.tree.specs.Tree.{Id, CellId, Program, sameId, sameCell, isInside}
+use Rattle.tree.specs.Tree.{Id, CellId, Array, Program, sameId, sameCell, isInside}
 use Rattle.grammar.specs.Parse.{Got}
 use Rattle.grammar.specs.Program.{parseProgram}
 use Rattle.grammar.specs.Computed as grammar
 use Rattle.semantics.specs.Trace.{State, Trace, bind, next, ended}
-use Rattle.semantics.specs.Acts.{updated, placeOf, valueOf, subscripted, element, entered, asPlace, reach, operate, storeA, setX, absolute, test, jump, counted}
-use Rattle.semantics.specs.Meaning.{unaryOn, unariesOn, operatorOn, operationOn, operationsOn, called, chosen, orderOf, holds, wordsAfter, ticks, related, whileTurns, forTurns, assigned, stmtsBy, termBy, condBy, exprBy, exprAt, bodyBy, stmtAt, withDeclaration, proceduresFrom, proceduresOf, meaning}
+use Rattle.semantics.specs.Acts.{updated, ticks, placeOf, valueOf, subscripted, passSteps, stopSteps, tested, element, entered, asPlace, reach, operate, storeA, setX, absolute, test, jump, counted}
+use Rattle.semantics.specs.Meaning.{unaryOn, unariesOn, operatorOn, operationOn, operationsOn, called, chosen, orderOf, holds, wordsAfter, related, whileTurns, forTurns, assigned, stmtsBy, termBy, condBy, exprBy, exprAt, bodyBy, stmtAt, withDeclaration, proceduresFrom, proceduresOf, meaning}
 use Rattle.tree.specs.Symbols.{globalsOf, wordsTaken}
 
 -- every definition that a meaning rests on, listed once
 unfoldable pub computed : ℕ → Program → State → Trace (Unit {0})
-unfolding grammar.computed compareOf sumOf differenceOf shiftOf signChanges multiplyOf divideOf longLeftOf longRightOf operateOf unaryOf skipsOf sameId sameCell bind next ended updated placeOf valueOf subscripted isInside element entered asPlace reach operate storeA setX absolute test jump counted unaryOn unariesOn operatorOn operationOn operationsOn called chosen orderOf holds wordsAfter ticks related whileTurns forTurns assigned stmtsBy termBy condBy exprBy exprAt bodyBy stmtAt globalsOf withDeclaration proceduresFrom proceduresOf meaning wordsTaken
+unfolding grammar.computed compareOf sumOf differenceOf shiftOf signChanges multiplyOf divideOf longLeftOf longRightOf operateOf unaryOf skipsOf sameId sameCell bind next ended updated ticks placeOf valueOf subscripted isInside passSteps stopSteps tested element entered asPlace reach operate storeA setX absolute test jump counted unaryOn unariesOn operatorOn operationOn operationsOn called chosen orderOf holds wordsAfter related whileTurns forTurns assigned stmtsBy termBy condBy exprBy exprAt bodyBy stmtAt globalsOf withDeclaration proceduresFrom proceduresOf meaning wordsTaken
 computed f p σ = meaning f p σ
 
 pub data Ending : Type 0 where
@@ -108,6 +108,51 @@ rows =
 examples : map (λ row. shown 3 start (parseProgram (bytes (row .0)))) rows ≡ map {B = List ℕ × Ending} (λ row. (row .1, row .2)) rows
 unfolding computed
 examples = refl
+
+-- ---- `.CHECKED` (M15)
+
+abbrev checkedRows : List (String × List ℕ × Ending)
+checkedRows =
+    -- LDA, LDX, the test, STA: a test that is passed takes 8 steps for -1, 7 between, 6 for -size, and 7 where that is -1
+    (".BEGIN .CHECKED; .ARRAY T[3]; T[-1] = 5 .END", 0 ∷ 11 ∷ [], Ending.done 11 5 65535) ∷
+    (".BEGIN .CHECKED; .ARRAY T[3]; T[-2] = 5 .END", 0 ∷ 10 ∷ [], Ending.done 10 5 65534) ∷
+    (".BEGIN .CHECKED; .ARRAY T[3]; T[-3] = 5 .END", 0 ∷ 9 ∷ [], Ending.done 9 5 65533) ∷
+    (".BEGIN .CHECKED; .ARRAY T[1]; T[-1] = 5 .END", 0 ∷ 10 ∷ [], Ending.done 10 5 65535) ∷
+    -- one that is not breaks the meaning off as without it: after the LDX, ahead of the test
+    (".BEGIN .CHECKED; .ARRAY T[3]; T[0] = 5 .END", 0 ∷ [], Ending.broken 2 5 0) ∷
+    (".BEGIN .CHECKED; .ARRAY T[3]; T[-4] = 5 .END", 0 ∷ [], Ending.broken 2 5 65532) ∷
+    (".BEGIN .CHECKED; .ARRAY T[0]; T[-1] = 5 .END", 0 ∷ [], Ending.broken 2 5 65535) ∷
+    -- no LDX for `#`: LDX -2, then LDA*, ADD* and STA* with 7 steps before each; outside without a step
+    (".BEGIN .CHECKED; .ARRAY T[3]; # = -2; T[#] = T[#] + T[#] .END", 0 ∷ 1 ∷ 25 ∷ [], Ending.done 25 0 65534) ∷
+    (".BEGIN .CHECKED; .ARRAY T[3]; T[#] = 5 .END", 0 ∷ [], Ending.broken 1 5 0) ∷
+    -- `# =` and `.FOR #` of an element: LDX -3, 6 steps, LDX* to 0; then the IRS, and as many more passes as the fuel allows
+    (".BEGIN .CHECKED; .ARRAY T[3]; # = T[-3] .END", 0 ∷ 8 ∷ [], Ending.done 8 7 0) ∷
+    (".BEGIN .CHECKED; .ARRAY T[3]; .FOR # = T[-3] .DO .END", 0 ∷ 8 ∷ 10 ∷ 12 ∷ [], Ending.out 14 7 3) ∷
+    -- in a procedure too: JST, LDX, 7 steps, LDA*, JMP*
+    (".BEGIN .CHECKED; .ARRAY T[3]; .PROCEDURE P; .BEGIN @ = T[-2] .END; P .END", 0 ∷ 10 ∷ 11 ∷ [], Ending.done 11 0 65534) ∷
+    -- LDX, 7 steps, LRS, DIV*, here by 0; outside ahead of the LRS
+    (".BEGIN .CHECKED; .ARRAY T[3]; @ = @ / T[-2] .END", 0 ∷ 10 ∷ [], Ending.done 10 0 65534) ∷
+    (".BEGIN .CHECKED; .ARRAY T[3]; @ = @ / T[3] .END", 0 ∷ [], Ending.broken 1 7 3) ∷
+    -- LDX, 7 steps, CAS*, SKP and the JMP
+    (".BEGIN .CHECKED; .ARRAY T[3]; .WHEN @ = T[-2] .THEN @ = 1 .END", 0 ∷ 11 ∷ [], Ending.done 11 7 65534) ∷
+    -- without an array it changes nothing
+    (".BEGIN .CHECKED; .INTEGER A; A = 2140 + 1875 + 960 .END", 0 ∷ 4 ∷ [], Ending.done 4 4975 0) ∷ []
+
+-- among them the known cases (K8)
+checked-examples : map (λ row. shown 3 start (parseProgram (bytes (row .0)))) checkedRows ≡ map {B = List ℕ × Ending} (λ row. (row .1, row .2)) checkedRows
+unfolding computed
+checked-examples = refl
+
+-- the steps of a test by X: passed for -1, -2, -3 and, in an array of one, -1; with the HLT for 0, 32767, -32768, -4 and -1
+abbrev ofSize : ℕ → Array
+ofSize n = record { number = 0; size = n; checked = true }
+
+test-steps :
+    passSteps (ofSize 3) 65535 ∷ passSteps (ofSize 3) 65534 ∷ passSteps (ofSize 3) 65533 ∷ passSteps (ofSize 1) 65535 ∷
+    stopSteps 0 ∷ stopSteps 32767 ∷ stopSteps 32768 ∷ stopSteps 65532 ∷ stopSteps 65535 ∷ []
+    ≡ 8 ∷ 7 ∷ 6 ∷ 7 ∷ 4 ∷ 4 ∷ 5 ∷ 5 ∷ 6 ∷ []
+unfolding computed
+test-steps = refl
 
 -- ---- `*`, `/` and `.MOD`, with B and C at the end (M4)
 

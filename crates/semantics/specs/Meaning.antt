@@ -11,7 +11,7 @@ use Rattle.instruction.specs.Slot.{CRA}
 use Rattle.tree.specs.Tree.{CellId, Unary, Operator, Operation, Relation, Expr, Term, Cond, Target, Stmt, Stmts, Declaration, Program}
 use Rattle.layout.specs.Words.{unaryPlain, operatorForm, shiftPlain, testSlot, bareSlot}
 use Rattle.semantics.specs.Trace.{State, Trace, bind, next, ended}
-use Rattle.semantics.specs.Acts.{Place, valueOf, tick, xCell, entered, reach, operatedOn, operate, storeA, setX, generic, absolute, plainOn, test, jump, counted}
+use Rattle.semantics.specs.Acts.{Place, valueOf, tick, ticks, xCell, entered, reach, operatedOn, operate, storeA, setX, generic, absolute, plainOn, test, jump, counted}
 use Rattle.tree.specs.Symbols.{globalsOf}
 
 -- ---- Expressions
@@ -110,10 +110,6 @@ wordsAfter Relation.atLeast Order.greater = 2
 wordsAfter Relation.atLeast Order.equal = 1
 wordsAfter Relation.atLeast Order.less = 1
 
-unfoldable pub ticks : ℕ → State → State
-ticks zero σ = σ
-ticks (suc n) σ = ticks n (tick σ)
-
 -- CAS and the words after it (M4, M5)
 unfoldable pub related : Relation → Place → State → Trace Bool
 related r p σ = let o = orderOf (compareOf (σ .registers .a) (valueOf p σ)) in Trace.done (holds r o) (ticks (wordsAfter r o) (tick σ))
@@ -205,7 +201,7 @@ outermost procedures fuel ss σ = stmtsBy (stmtAt procedures fuel 33) ss σ
 -- a procedure sees the earlier ones; its locals' cells are as those of globals, so that a later call finds what an earlier one left (M3)
 unfoldable pub withDeclaration : ℕ → ℕ → Procedures → Declaration → Procedures
 withDeclaration fuel n procedures (Declaration.item name item) = procedures
-withDeclaration fuel n procedures (Declaration.array name size values) = procedures
+withDeclaration fuel n procedures (Declaration.array name size checked values) = procedures
 withDeclaration fuel n procedures (Declaration.procedure name accumulator locals body) =
     λ p σ. cond (eqb p n) (outermost procedures fuel body σ) (procedures p σ)
 withDeclaration fuel n procedures Declaration.nextSector = procedures

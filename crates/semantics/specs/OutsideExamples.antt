@@ -1,6 +1,6 @@
 -- Worked examples of the meaning from outside, decided by computation: sources that an independent implementation gave a meaning and ran, by the numbers of their cases (tests/runs_vectors.py).
 -- The steps of the observations, and of an end, are those that it counted; A, B, C and the cells at the end are what its run left in the machine. In case 27, which goes on,
--- the place where our fuel is out is not from outside.
+-- the place where our fuel is out is not from outside; where a case with `.CHECKED` breaks off, A is what the run left in word 2.
 use Prim.Native.Nat.{ℕ}
 use Prim.Native.String.{String}
 use mathlib.Core.Path.{_≡_, refl}
@@ -12,7 +12,7 @@ use Rattle.tree.specs.Tree.{Id, CellId, Program}
 use Rattle.grammar.specs.Parse.{Got}
 use Rattle.grammar.specs.Program.{parseProgram}
 use Rattle.semantics.specs.Trace.{State}
-use Rattle.semantics.specs.Acts.{updated}
+use Rattle.semantics.specs.Acts.{updated, stopSteps}
 use Rattle.semantics.specs.Meaning.{meaning}
 use Rattle.semantics.specs.Examples.{Ending, computed, shown, atEnd}
 
@@ -354,6 +354,138 @@ rows =
       b = 59542;
       carry = false;
       changed = (global 0, 17218) ∷ (global 1, 67) ∷ (global 2, 66) ∷ [];
+    } ∷
+    -- case 87: -size, and one below it
+    record {
+      source = ".BEGIN .CHECKED; .ARRAY T[3](7,8,9); @ = T[-3]; T[-4] = 1 .END";
+      start = from 22916 29867 true (sense false true false true);
+      words = (x, 32768) ∷ (item 0 65533, 13735) ∷ (item 0 65534, 11119) ∷ (item 0 65535, 32768) ∷ [];
+      fuel = 1;
+      numbers = 0 ∷ 8 ∷ [];
+      end = Ending.broken 10 1 65532;
+      b = 29867;
+      carry = true;
+      changed = (x, 65532) ∷ [];
+    } ∷
+    -- case 88: an array of one element: -1 passes, 0 does not
+    record {
+      source = ".BEGIN .CHECKED; .ARRAY T[1](5); @ = 9; @ = T[-1]; @ = T[0] .END";
+      start = from 30363 24192 true (sense false false true true);
+      words = (x, 9266) ∷ (item 0 65535, 51909) ∷ [];
+      fuel = 1;
+      numbers = 0 ∷ 1 ∷ 10 ∷ [];
+      end = Ending.broken 11 51909 0;
+      b = 24192;
+      carry = true;
+      changed = (x, 0) ∷ [];
+    } ∷
+    -- case 89: an array of none
+    record {
+      source = ".BEGIN .CHECKED; .ARRAY T[0]; @ = 9; @ = T[-1] .END";
+      start = from 65530 23541 false (sense true false true false);
+      words = (x, 65532) ∷ [];
+      fuel = 1;
+      numbers = 0 ∷ 1 ∷ [];
+      end = Ending.broken 2 9 65535;
+      b = 23541;
+      carry = false;
+      changed = (x, 65535) ∷ [];
+    } ∷
+    -- case 90: `#`: stored at -size, stopped above
+    record {
+      source = ".BEGIN .CHECKED; .ARRAY T[2](1,2); # = -2; T[#] = 5; # = 1; T[#] = 6 .END";
+      start = from 12167 46517 true (sense false true false false);
+      words = (x, 3) ∷ (item 0 65534, 65535) ∷ (item 0 65535, 64981) ∷ [];
+      fuel = 1;
+      numbers = 0 ∷ 1 ∷ 9 ∷ 10 ∷ [];
+      end = Ending.broken 11 6 1;
+      b = 46517;
+      carry = true;
+      changed = (x, 1) ∷ (item 0 65534, 5) ∷ [];
+    } ∷
+    -- case 91: `# =` of an element
+    record {
+      source = ".BEGIN .CHECKED; .ARRAY T[2](1,2); # = -1; @ = T[#]; # = T[#]; # = T[#] .END";
+      start = from 0 2293 true (sense true true false false);
+      words = (x, 65530) ∷ (item 0 65534, 65529) ∷ (item 0 65535, 3) ∷ [];
+      fuel = 1;
+      numbers = 0 ∷ 1 ∷ 10 ∷ 19 ∷ [];
+      end = Ending.broken 19 3 3;
+      b = 2293;
+      carry = true;
+      changed = (x, 3) ∷ [];
+    } ∷
+    -- case 93: two arrays in one expression
+    record {
+      source = ".BEGIN .CHECKED; .INTEGER I,S; .ARRAY T[2](1,2),U[2](3,4); I = -1; S = T[-2] + U[I] + T[5]; S = 1 .END";
+      start = from 65529 13769 true (sense false false true false);
+      words = (x, 65531) ∷ (global 0, 65530) ∷ (item 3 65534, 32768) ∷ (item 3 65535, 65535) ∷ (item 2 65534, 29873) ∷ (item 2 65535, 65528) ∷ [];
+      fuel = 1;
+      numbers = 0 ∷ 2 ∷ [];
+      end = Ending.broken 21 29872 5;
+      b = 13769;
+      carry = false;
+      changed = (x, 5) ∷ (global 0, 65535) ∷ [];
+    } ∷
+    -- case 95: in a relation, with the largest X
+    record {
+      source = ".BEGIN .CHECKED; .INTEGER I; .ARRAY T[2](1,2); I = 32767; .WHEN T[-1] = T[I] .THEN @ = 3 .END";
+      start = from 6482 53219 true (sense true false false false);
+      words = (x, 65535) ∷ (global 0, 65528) ∷ (item 1 65534, 65529) ∷ (item 1 65535, 37079) ∷ [];
+      fuel = 1;
+      numbers = 0 ∷ 2 ∷ [];
+      end = Ending.broken 13 37079 32767;
+      b = 53219;
+      carry = true;
+      changed = (x, 32767) ∷ (global 0, 32767) ∷ [];
+    } ∷
+    -- case 96: a loop over an array
+    record {
+      source = ".BEGIN .CHECKED; .INTEGER I; .ARRAY T[3](1,2,3); .FOR I = -3 .DO @ = T[I] .END";
+      start = from 34257 65338 false (sense true true false true);
+      words = (x, 65280) ∷ (global 0, 57340) ∷ (item 1 65533, 19383) ∷ (item 1 65534, 65529) ∷ (item 1 65535, 0) ∷ [];
+      fuel = 5;
+      numbers = 0 ∷ 10 ∷ 21 ∷ 33 ∷ 34 ∷ [];
+      end = Ending.done 34 0 65535;
+      b = 65338;
+      carry = false;
+      changed = (x, 65535) ∷ (global 0, 0) ∷ [];
+    } ∷
+    -- case 97: with `*`, `/` and `.MOD`
+    record {
+      source = ".BEGIN .CHECKED; .INTEGER I; .ARRAY T[2](3,0); I = -2; @ = 1000 * T[I] / T[I] .MOD T[-1] * T[I]; @ = 7 * T[0] .END";
+      start = from 65534 48055 false (sense true false false true);
+      words = (x, 3) ∷ (global 0, 15986) ∷ (item 1 65534, 32769) ∷ (item 1 65535, 53346) ∷ [];
+      fuel = 1;
+      numbers = 0 ∷ 2 ∷ 42 ∷ [];
+      end = Ending.broken 44 7 0;
+      b = 0;
+      carry = false;
+      changed = (x, 0) ∷ (global 0, 65534) ∷ [];
+    } ∷
+    -- case 98: ahead of the LRS, above
+    record {
+      source = ".BEGIN .CHECKED; .INTEGER I; .ARRAY T[2](3,0); I = 3; @ = -7; @ = @ / T[I] .END";
+      start = from 3 23135 false (sense false false true false);
+      words = (x, 38539) ∷ (global 0, 65533) ∷ (item 1 65534, 65532) ∷ (item 1 65535, 65532) ∷ [];
+      fuel = 1;
+      numbers = 0 ∷ 2 ∷ 3 ∷ [];
+      end = Ending.broken 4 65529 3;
+      b = 23135;
+      carry = false;
+      changed = (x, 3) ∷ (global 0, 3) ∷ [];
+    } ∷
+    -- case 99: ahead of the LRS, below
+    record {
+      source = ".BEGIN .CHECKED; .INTEGER I; .ARRAY T[2](3,0); I = -3; @ = -7; @ = @ .MOD T[I] .END";
+      start = from 35373 42769 true (sense true false false false);
+      words = (x, 18609) ∷ (global 0, 2) ∷ (item 1 65534, 1) ∷ (item 1 65535, 6163) ∷ [];
+      fuel = 1;
+      numbers = 0 ∷ 2 ∷ 3 ∷ [];
+      end = Ending.broken 4 65529 65533;
+      b = 42769;
+      carry = true;
+      changed = (x, 65533) ∷ (global 0, 65533) ∷ [];
     } ∷ []
 
 abbrev tree : Row → Got Program
@@ -366,3 +498,10 @@ examples = refl
 all-left : map (λ row. leftBy row (tree row)) rows ≡ map {B = ℕ × Bool × List ℕ} (λ row. (row .b, row .carry, map (λ w. laid (started row .cells) (row .changed) (w .0)) (row .words))) rows
 unfolding computed
 all-left = refl
+
+-- how many steps after its break-off each of the cases 87 to 95 and 97 to 99 stopped, by X, which the run left in A (M15)
+stops :
+    map {B = ℕ} stopSteps (65532 ∷ 0 ∷ 65535 ∷ 1 ∷ 3 ∷ 65530 ∷ 5 ∷ 32768 ∷ 32767 ∷ 0 ∷ 3 ∷ 65533 ∷ [])
+    ≡ 5 ∷ 4 ∷ 6 ∷ 4 ∷ 4 ∷ 5 ∷ 4 ∷ 5 ∷ 4 ∷ 4 ∷ 4 ∷ 5 ∷ []
+unfolding computed
+stops = refl

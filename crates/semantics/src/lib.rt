@@ -1,5 +1,6 @@
 // The semantics of the language, and demand 3 over the definitions. The functions carry the theorems as their contracts.
 ghost use Rattle.semantics.specs.Agreement.{Demand3, Loadable};
+ghost use Rattle.semantics.specs.CheckedLaws.{CheckedLaws};
 
 pub fn demand_three()
     ensures { λ r. ⌜ Demand3 ⌝ }
@@ -9,4 +10,9 @@ pub fn demand_three()
 // such a memory (demand 3k).
 pub fn start_exists()
     ensures { λ r. ⌜ Loadable ⌝ }
+{}
+
+// What `.CHECKED` changes, and that without it the words, the steps and the condition on subscripts are as they were.
+pub fn checked_laws()
+    ensures { λ r. ⌜ CheckedLaws ⌝ }
 {}

@@ -20,29 +20,29 @@ use Rattle.source.proofs.Same.{equal}
 -- ---- the table
 
 abbrev pub letters : List ℕ
-letters = bytes "BEGINENDINTEGERCONSTANTCOMPCONSTANTARRAYNEXTSECTORPROCEDUREACCUMULATORIFTHENELSEWHENWHILEDOFORZEROANDNEVADDCINCNEGSSPSSMCHSCSANOTICLEFTCLEFTSWOPICRIGHTCRIGHTABSLGRARSARRLGLALSALRNONZEROPLUSMINUSODDEVENCSETNOTCSENSE1SENSE2SENSE3SENSE4ANYKEYNOKEYMOD"
+letters = bytes "BEGINENDINTEGERCONSTANTCOMPCONSTANTARRAYNEXTSECTORPROCEDUREACCUMULATORIFTHENELSEWHENWHILEDOFORZEROANDNEVADDCINCNEGSSPSSMCHSCSANOTICLEFTCLEFTSWOPICRIGHTCRIGHTABSLGRARSARRLGLALSALRNONZEROPLUSMINUSODDEVENCSETNOTCSENSE1SENSE2SENSE3SENSE4ANYKEYNOKEYMODCHECKED"
 
 abbrev pub starts : List ℕ
-starts = 0 ∷ 5 ∷ 8 ∷ 15 ∷ 23 ∷ 35 ∷ 40 ∷ 50 ∷ 59 ∷ 70 ∷ 72 ∷ 76 ∷ 80 ∷ 84 ∷ 89 ∷ 91 ∷ 94 ∷ 98 ∷ 101 ∷ 104 ∷ 108 ∷ 111 ∷ 114 ∷ 117 ∷ 120 ∷ 123 ∷ 126 ∷ 129 ∷ 135 ∷ 140 ∷ 144 ∷ 151 ∷ 157 ∷ 160 ∷ 163 ∷ 166 ∷ 169 ∷ 172 ∷ 175 ∷ 178 ∷ 185 ∷ 189 ∷ 194 ∷ 197 ∷ 201 ∷ 205 ∷ 209 ∷ 215 ∷ 221 ∷ 227 ∷ 233 ∷ 239 ∷ 244 ∷ 247 ∷ []
+starts = 0 ∷ 5 ∷ 8 ∷ 15 ∷ 23 ∷ 35 ∷ 40 ∷ 50 ∷ 59 ∷ 70 ∷ 72 ∷ 76 ∷ 80 ∷ 84 ∷ 89 ∷ 91 ∷ 94 ∷ 98 ∷ 101 ∷ 104 ∷ 108 ∷ 111 ∷ 114 ∷ 117 ∷ 120 ∷ 123 ∷ 126 ∷ 129 ∷ 135 ∷ 140 ∷ 144 ∷ 151 ∷ 157 ∷ 160 ∷ 163 ∷ 166 ∷ 169 ∷ 172 ∷ 175 ∷ 178 ∷ 185 ∷ 189 ∷ 194 ∷ 197 ∷ 201 ∷ 205 ∷ 209 ∷ 215 ∷ 221 ∷ 227 ∷ 233 ∷ 239 ∷ 244 ∷ 247 ∷ 254 ∷ []
 
 -- the letters of a keyword, by its number
 abbrev pub keywordAt : ℕ → List ℕ
 keywordAt k = take (getD starts (k + 1) 0 - getD starts k 0) (drop (getD starts k 0) letters)
 
 -- the rules of the table, each a test that antt computes at every row
-module _ (k : ℕ) (h : k < 53) where
+module _ (k : ℕ) (h : k < 54) where
   pub in-order : getD starts k 0 ≤ getD starts (k + 1) 0
-  in-order = leb→le (getD starts k 0) (getD starts (k + 1) 0) (below (λ n. leb (getD starts n 0) (getD starts (n + 1) 0)) 53 tt k h)
+  in-order = leb→le (getD starts k 0) (getD starts (k + 1) 0) (below (λ n. leb (getD starts n 0) (getD starts (n + 1) 0)) 54 tt k h)
 
   pub in-letters : getD starts (k + 1) 0 ≤ length letters
-  in-letters = leb→le (getD starts (k + 1) 0) (length letters) (below (λ n. leb (getD starts (n + 1) 0) (length letters)) 53 tt k h)
+  in-letters = leb→le (getD starts (k + 1) 0) (length letters) (below (λ n. leb (getD starts (n + 1) 0) (length letters)) 54 tt k h)
 
   pub letters-of : keywordAt k ≡ getD keywords k ([], 0) .0
   unfolding sameBytes
-  letters-of = equal (keywordAt k) (getD keywords k ([], 0) .0) (below (λ n. sameBytes (keywordAt n) (getD keywords n ([], 0) .0)) 53 tt k h)
+  letters-of = equal (keywordAt k) (getD keywords k ([], 0) .0) (below (λ n. sameBytes (keywordAt n) (getD keywords n ([], 0) .0)) 54 tt k h)
 
   kind-of : getD keywords k ([], 0) .1 ≡ 22 + k
-  kind-of = eqb→eq (getD keywords k ([], 0) .1) (22 + k) (below (λ n. eqb (getD keywords n ([], 0) .1) (22 + n)) 53 tt k h)
+  kind-of = eqb→eq (getD keywords k ([], 0) .1) (22 + k) (below (λ n. eqb (getD keywords n ([], 0) .1) (22 + n)) 54 tt k h)
 
 -- ---- the search
 
@@ -55,15 +55,15 @@ module _ (keyword : List ℕ) where
   unfolding keywordKind kindFrom
   from-first = refl
 
-  pub found : (k : ℕ) → k < 53 → sameBytes keyword (getD keywords k ([], 0) .0) ≡ true → kindFrom keyword k ≡ 22 + k
+  pub found : (k : ℕ) → k < 54 → sameBytes keyword (getD keywords k ([], 0) .0) ≡ true → kindFrom keyword k ≡ 22 + k
   unfolding kindFrom find
   found k h e = rw (drop-cons keywords k ([], 0) h, e) (kind-of k h)
 
-  pub next : (k : ℕ) → k < 53 → sameBytes keyword (getD keywords k ([], 0) .0) ≡ false → kindFrom keyword k ≡ kindFrom keyword (k + 1)
+  pub next : (k : ℕ) → k < 54 → sameBytes keyword (getD keywords k ([], 0) .0) ≡ false → kindFrom keyword k ≡ kindFrom keyword (k + 1)
   unfolding kindFrom find
   next k h e = rw (add-one, drop-cons keywords k ([], 0) h, e)
 
-  pub none : (k : ℕ) → 53 ≤ k → kindFrom keyword k ≡ Kinds.unknown
+  pub none : (k : ℕ) → 54 ≤ k → kindFrom keyword k ≡ Kinds.unknown
   unfolding kindFrom find
   none k h = rw (drop-of-length-le keywords h)
 

@@ -20,7 +20,7 @@ kinds-differ :
     (Kinds.endOfSource ∷ Kinds.unknown ∷ Kinds.outOfRange ∷ Kinds.name ∷ Kinds.numeral ∷ Kinds.semicolon ∷ Kinds.comma ∷ Kinds.equal ∷ Kinds.notEqual ∷ Kinds.less ∷ Kinds.greater ∷ Kinds.atMost ∷
     Kinds.atLeast ∷ Kinds.plus ∷ Kinds.minus ∷ Kinds.leftParenthesis ∷ Kinds.rightParenthesis ∷ Kinds.leftBracket ∷ Kinds.rightBracket ∷ Kinds.quote ∷ Kinds.at ∷ Kinds.hash ∷ [])
     ++ (map (λ row. row .1) keywords ++ (Kinds.star ∷ Kinds.slash ∷ []))
-    ≡ from 0 75 ++ (100 ∷ 101 ∷ [])
+    ≡ from 0 76 ++ (100 ∷ 101 ∷ [])
 kinds-differ = refl
 
 -- the tokens of a source: kind, value and offset of each. Its line lists what an example unfolds
@@ -58,8 +58,8 @@ every-sign = refl
 every-keyword :
     map (λ t. t .0) (tokensBy 99 (bytes ".BEGIN .END .INTEGER .CONSTANT .COMPCONSTANT .ARRAY .NEXTSECTOR .PROCEDURE .ACCUMULATOR .IF .THEN .ELSE .WHEN .WHILE .DO .FOR"
     ++ (bytes " .ZERO .AND .NEV .ADDC .INC .NEG .SSP .SSM .CHS .CSA .NOT .ICLEFT .CLEFT .SWOP .ICRIGHT .CRIGHT .ABS"
-    ++ bytes " .LGR .ARS .ARR .LGL .ALS .ALR .NONZERO .PLUS .MINUS .ODD .EVEN .CSET .NOTC .SENSE1 .SENSE2 .SENSE3 .SENSE4 .ANYKEY .NOKEY .MOD")) 0)
-    ≡ from 22 53
+    ++ bytes " .LGR .ARS .ARR .LGL .ALS .ALR .NONZERO .PLUS .MINUS .ODD .EVEN .CSET .NOTC .SENSE1 .SENSE2 .SENSE3 .SENSE4 .ANYKEY .NOKEY .MOD .CHECKED")) 0)
+    ≡ from 22 54
 unfolding tokensBy
 every-keyword = refl
 

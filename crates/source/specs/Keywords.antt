@@ -20,7 +20,7 @@ keywords =
     (bytes "LGR", Kinds.LGR) ∷ (bytes "ARS", Kinds.ARS) ∷ (bytes "ARR", Kinds.ARR) ∷ (bytes "LGL", Kinds.LGL) ∷ (bytes "ALS", Kinds.ALS) ∷ (bytes "ALR", Kinds.ALR) ∷
     (bytes "NONZERO", Kinds.NONZERO) ∷ (bytes "PLUS", Kinds.PLUS) ∷ (bytes "MINUS", Kinds.MINUS) ∷ (bytes "ODD", Kinds.ODD) ∷ (bytes "EVEN", Kinds.EVEN) ∷
     (bytes "CSET", Kinds.CSET) ∷ (bytes "NOTC", Kinds.NOTC) ∷ (bytes "SENSE1", Kinds.SENSE1) ∷ (bytes "SENSE2", Kinds.SENSE2) ∷
-    (bytes "SENSE3", Kinds.SENSE3) ∷ (bytes "SENSE4", Kinds.SENSE4) ∷ (bytes "ANYKEY", Kinds.ANYKEY) ∷ (bytes "NOKEY", Kinds.NOKEY) ∷ (bytes "MOD", Kinds.MOD) ∷ []
+    (bytes "SENSE3", Kinds.SENSE3) ∷ (bytes "SENSE4", Kinds.SENSE4) ∷ (bytes "ANYKEY", Kinds.ANYKEY) ∷ (bytes "NOKEY", Kinds.NOKEY) ∷ (bytes "MOD", Kinds.MOD) ∷ (bytes "CHECKED", Kinds.CHECKED) ∷ []
 
 -- how many bytes after the point belong to its keyword: its letters, and one digit after `SENSE` (T4, T6)
 unfoldable pub keywordLength : List ℕ → ℕ

@@ -237,6 +237,10 @@ NOKEY = 73
 abbrev pub MOD : ℕ
 MOD = 74
 
+-- the word that has every subscript tested
+abbrev pub CHECKED : ℕ
+CHECKED = 75
+
 -- the signs `*` and `/`; the numbers between are left to keywords, whose kinds follow one another
 abbrev pub star : ℕ
 star = 100

@@ -10,10 +10,10 @@ ghost use Rattle.source.specs.Bytes.{isDigit, span, sameBytes};
 ghost use Rattle.source.specs.Keywords.{keywordLength, keywordKind};
 ghost use Rattle.source.specs.Tokens.{keywordToken};
 
-const COUNT: usize = 53;
+const COUNT: usize = 54;
 
 // Where each keyword starts in the letters of all, and where the last ends.
-const STARTS: [usize; 54] = [
+const STARTS: [usize; 55] = [
     0,
     5,
     8,
@@ -68,6 +68,7 @@ const STARTS: [usize; 54] = [
     239,
     244,
     247,
+    254,
 ];
 
 fn same(a: &[u8], b: &[u8]) -> bool
@@ -101,7 +102,7 @@ fn keyword_kind(keyword: &[u8]) -> u16
     let letters =
         b"BEGINENDINTEGERCONSTANTCOMPCONSTANTARRAYNEXTSECTORPROCEDUREACCUMULATORIFTHENELSEWHENWHILEDOFOR\
           ZEROANDNEVADDCINCNEGSSPSSMCHSCSANOTICLEFTCLEFTSWOPICRIGHTCRIGHTABS\
-          LGRARSARRLGLALSALRNONZEROPLUSMINUSODDEVENCSETNOTCSENSE1SENSE2SENSE3SENSE4ANYKEYNOKEYMOD";
+          LGRARSARRLGLALSALRNONZEROPLUSMINUSODDEVENCSETNOTCSENSE1SENSE2SENSE3SENSE4ANYKEYNOKEYMODCHECKED";
     let starts = STARTS;
     let mut k: usize = 0;
     while k < COUNT {

@@ -149,6 +149,8 @@ pub const NOKEY: u16 = 73;
 
 pub const MOD: u16 = 74;
 
+pub const CHECKED: u16 = 75;
+
 pub const STAR: u16 = 100;
 
 pub const SLASH: u16 = 101;

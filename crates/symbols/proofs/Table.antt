@@ -1,7 +1,7 @@
 -- What a table below a place holds, and that each symbol's words give it back.
 use Prim.Native.Nat.{ℕ, zero, suc, _+_, _*_, _/_, _-_, _≤_, _<_}
 use mathlib.Core.Path.{_≡_, refl, sym, ap, ap₂, _∙_}
-use mathlib.Core.Bool.{true, false}
+use mathlib.Core.Bool.{Bool, true, false}
 use mathlib.Core.List.{List, [], _∷_}
 use mathlib.Core.Option.{some}
 use native.Mathlib.Omega.{arith}
@@ -9,7 +9,7 @@ use borrow.Author.Tests.{le-leb, lt-ltb, le-ltb}
 use native.Mathlib.Numerals.{add-one, sub-one}
 use lib.ListN.{length, getD, set, take, length-set}
 use lib.Seq.{getD-take, getD-set-same, getD-set-other, take-set-le}
-use Rattle.tree.specs.Tree.{Item}
+use Rattle.tree.specs.Tree.{Array, Item}
 use Rattle.tree.specs.Symbols.{Symbol, Level, Scope, nextId, itemSymbol}
 use Rattle.symbols.specs.declared.Packed.{Packed}
 use Rattle.symbols.specs.Packing.{unpack}
@@ -23,7 +23,11 @@ unfolding symbolFrom dataOf atLevel
 symbol-coded level (Symbol.integer i) = refl
 symbol-coded level (Symbol.constant i v) = refl
 symbol-coded level (Symbol.compconstant v) = refl
-symbol-coded level (Symbol.array a) = refl
+symbol-coded level (Symbol.array a) = array-coded (a .number) (a .size) (a .checked)
+  where
+    array-coded : (number size : ℕ) (checked : Bool) → let a : Array = record { number = number; size = size; checked = checked } in symbolFrom level (dataOf (Symbol.array a)) ≡ atLevel level (Symbol.array a)
+    array-coded number size true = refl
+    array-coded number size false = refl
 symbol-coded level (Symbol.procedure p true) = refl
 symbol-coded level (Symbol.procedure p false) = refl
 symbol-coded level Symbol.unknown = refl

@@ -26,12 +26,12 @@ numberOf Id.x = 0
 numberOf (Id.global n) = n
 numberOf (Id.local p n) = n
 
--- an array's value is its size
+-- an array's value is its size, and its tag says whether its subscripts are tested
 unfoldable pub dataOf : Symbol → Data
 dataOf (Symbol.integer i) = record { tag = 1; number = numberOf i; value = 0 }
 dataOf (Symbol.constant i v) = record { tag = 2; number = numberOf i; value = v }
 dataOf (Symbol.compconstant v) = record { tag = 3; number = 0; value = v }
-dataOf (Symbol.array a) = record { tag = 4; number = a .number; value = a .size }
+dataOf (Symbol.array a) = record { tag = cond (a .checked) 7 4; number = a .number; value = a .size }
 dataOf (Symbol.procedure p accumulator) = record { tag = cond accumulator 6 5; number = p; value = 0 }
 dataOf Symbol.unknown = record { tag = 0; number = 0; value = 0 }
 
@@ -41,9 +41,10 @@ symbolFrom level d =
     whether (eqb (d .tag) 1) (λ _. Symbol.integer (nextId level (d .number))) λ _.
     whether (eqb (d .tag) 2) (λ _. Symbol.constant (nextId level (d .number)) (d .value)) λ _.
     whether (eqb (d .tag) 3) (λ _. Symbol.compconstant (d .value)) λ _.
-    whether (eqb (d .tag) 4) (λ _. Symbol.array (record { number = d .number; size = d .value })) λ _.
+    whether (eqb (d .tag) 4) (λ _. Symbol.array (record { number = d .number; size = d .value; checked = false })) λ _.
     whether (eqb (d .tag) 5) (λ _. Symbol.procedure (d .number) false) λ _.
     whether (eqb (d .tag) 6) (λ _. Symbol.procedure (d .number) true) λ _.
+    whether (eqb (d .tag) 7) (λ _. Symbol.array (record { number = d .number; size = d .value; checked = true })) λ _.
     Symbol.unknown
 
 -- ---- Entries

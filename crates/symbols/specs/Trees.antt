@@ -14,7 +14,7 @@ treeId (Id.Global n) = tree.Id.global n
 treeId (Id.Local p n) = tree.Id.local p n
 
 abbrev pub treeArray : Array → tree.Array
-treeArray a = record { number = a .number; size = a .size }
+treeArray a = record { number = a .number; size = a .size; checked = a .checked }
 
 unfoldable pub treeOperand : Operand → tree.Operand
 treeOperand (Operand.Named i) = tree.Operand.named (treeId i)

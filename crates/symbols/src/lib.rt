@@ -30,6 +30,8 @@ const PROCEDURE: u16 = 5;
 
 const FUNCTION: u16 = 6;
 
+const CHECKED_ARRAY: u16 = 7;
+
 const UNKNOWN: u16 = 0;
 
 // X and no second character.
@@ -42,9 +44,11 @@ pub enum Id {
     Local { procedure: u16, number: u16 },
 }
 
+// An array: its number among the globals, its size, and whether its subscripts are tested.
 pub struct Array {
     pub number: u16,
     pub size: u16,
+    pub checked: bool,
 }
 
 pub enum Operand {
@@ -172,7 +176,7 @@ fn data_of(symbol: Symbol) -> Data
             value,
         },
         Symbol::Array { array } => Data {
-            tag: ARRAY,
+            tag: if array.checked { CHECKED_ARRAY } else { ARRAY },
             number: array.number,
             value: array.size,
         },
@@ -223,6 +227,7 @@ fn symbol_at(table: &[u16], at: usize) -> Symbol
             array: Array {
                 number,
                 size: value,
+                checked: false,
             },
         },
         PROCEDURE => Symbol::Procedure {
@@ -232,6 +237,13 @@ fn symbol_at(table: &[u16], at: usize) -> Symbol
         FUNCTION => Symbol::Procedure {
             number,
             accumulator: true,
+        },
+        CHECKED_ARRAY => Symbol::Array {
+            array: Array {
+                number,
+                size: value,
+                checked: true,
+            },
         },
         _ => Symbol::Unknown,
     }

@@ -144,7 +144,7 @@ itemValue (Item.compconstant v) = v
 -- of a declaration, how many words of sector 0 (A3): globals are numbered by them
 unfoldable pub globalsOf : Declaration → ℕ
 globalsOf (Declaration.item name item) = wordsTaken item
-globalsOf (Declaration.array name size values) = 1
+globalsOf (Declaration.array name size checked values) = 1
 globalsOf (Declaration.procedure name accumulator locals body) = 1
 globalsOf Declaration.nextSector = 0
 

@@ -1,5 +1,5 @@
 -- The syntax tree: one constructor for each form. It holds ids and values, no addresses, and no names but those that declarations declare.
-use Prim.Native.Nat.{ℕ, _-_}
+use Prim.Native.Nat.{ℕ, _-_, _%_}
 use mathlib.Core.Bool.{Bool, true, false, cond}
 use lib.Dec.{eqb, leb, ltb}
 use mathlib.Core.List.{List}
@@ -35,14 +35,19 @@ sameCell (CellId.named i) (CellId.element b w) = false
 sameCell (CellId.element a v) (CellId.named j) = false
 sameCell (CellId.element a v) (CellId.element b w) = cond (eqb a b) (eqb v w) false
 
--- an array's number, counted with the globals, and its size
+-- an array's number, counted with the globals; its size; whether its subscripts are tested (D17)
 pub record Array : Type 0 where
   pub number : ℕ
   pub size : ℕ
+  pub checked : Bool
 
 -- whether a word is one of the array's subscripts, which are -size to -1 (D7, M9)
 unfoldable pub isInside : Array → ℕ → Bool
 isInside a v = cond (leb (65536 - a .size) v) (ltb v 65536) false
+
+-- -size as a word: the lowest subscript, or 0 of an array that has none (D7, W19)
+abbrev pub lowest : Array → ℕ
+lowest a = (65536 - a .size) % 65536
 
 -- an operand: an integer or a named constant by its id, a numeral or a compconstant by its value (E1)
 pub data Operand : Type 0 where
@@ -155,14 +160,15 @@ pub data Item : Type 0 where
 pub data Declaration : Type 0 where
   -- an integer, a constant or a compconstant (D3, D4)
   item : Name → Item → Declaration
-  -- with its size and initial values (D5)
-  array : Name → ℕ → List ℕ → Declaration
+  -- with its size, whether its subscripts are tested, and its initial values (D5, D17)
+  array : Name → ℕ → Bool → List ℕ → Declaration
   -- with whether it is an accumulator procedure, its locals and its statements (D9, D10)
   procedure : Name → Bool → List (Name × Item) → Stmts → Declaration
   -- without a name (D8)
   nextSector : Declaration
 
--- the declarations, and the statements of the main body (D1)
+-- whether `.CHECKED` is there (D17), the other declarations, and the statements of the main body (D1)
 pub record Program : Type 0 where
+  pub checked : Bool
   pub declarations : List Declaration
   pub main : Stmts

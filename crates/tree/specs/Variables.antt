@@ -28,7 +28,7 @@ elementsOf number subscript (suc n) = CellId.element number subscript ∷ elemen
 unfoldable pub declaredBy : {A : Type 0} → (Id → Item → List A) → (ℕ → ℕ → List A) → ℕ → List Declaration → List A
 declaredBy cells elements n [] = []
 declaredBy cells elements n (Declaration.item name item ∷ ds) = cells (Id.global n) item ++ declaredBy cells elements (n + wordsTaken item) ds
-declaredBy cells elements n (Declaration.array name size values ∷ ds) = elements n size ++ declaredBy cells elements (suc n) ds
+declaredBy cells elements n (Declaration.array name size checked values ∷ ds) = elements n size ++ declaredBy cells elements (suc n) ds
 declaredBy cells elements n (Declaration.procedure name accumulator locals body ∷ ds) = localsBy cells n 0 locals ++ declaredBy cells elements (suc n) ds
 declaredBy cells elements n (Declaration.nextSector ∷ ds) = declaredBy cells elements n ds
 

@@ -2,7 +2,7 @@
 use Prim.Native.Nat.{ℕ, _+_, _≤_, _<_}
 use mathlib.Core.Path.{_≡_, refl}
 use mathlib.Core.Bool.{Bool, true, false}
-use mathlib.Core.List.{List, [], foldl}
+use mathlib.Core.List.{List, [], _∷_, _++_, foldl}
 use native.Mathlib.Omega.{arith}
 use lib.Dec.{leb, ltb}
 use lib.ListN.{length, length-append}
@@ -15,12 +15,12 @@ use Rattle.tree.specs.Symbols.{Level, Names, Scope, declareItem, localScope, is
 use Rattle.layout.specs.Allocation.{allocated, localWords}
 use Rattle.layout.specs.Limits.{wordLimit, nameLimit, declarationLimit}
 use Rattle.grammar.specs.Parse.{Got, is}
-use Rattle.grammar.specs.Declarations.{newName, ItemKeyword, itemKeywords, itemLimit, sizeOf, parseValue, itemFrom, parseItem, parseList, parseLocal, parseLocals, parseGlobal, parseInitial, parseInitials, parseArray, parseLimited, parseProcedure, parseAccumulator, declarationKeywords, parseDeclarations}
+use Rattle.grammar.specs.Declarations.{newName, ItemKeyword, itemKeywords, itemLimit, sizeOf, parseValue, itemFrom, parseItem, parseList, parseLocal, parseLocals, parseGlobal, parseInitial, parseInitials, parseArray, parseLimited, parseProcedure, parseAccumulator, declarationKeywords, parseChecked, parseDeclarations}
 use Rattle.grammar.specs.Program.{parseMain}
-use Rattle.parsing_laws.specs.WellFormed.{Context, Kind, itemKinds, kindsOf, ValueOk, LocalsOk, WordsOk, DeclarationOk, DeclarationsOk, none, more, WellFormed}
+use Rattle.parsing_laws.specs.WellFormed.{All, Context, Kind, itemKinds, kindsOf, ValueOk, LocalsOk, WordsOk, DeclarationOk, DeclarationsOk, none, more, Flagged, WellFormed}
 use Rattle.parsing_laws.proofs.Parsed.Choices.{choice, Some, there, nothing, Rows, last, row, one-of, row-of}
 use Rattle.parsing_laws.proofs.Parsed.Words.{IsWord}
-use Rattle.parsing_laws.proofs.Parsed.Parts.{Parsed, fine, Parses, Limit, Ended, Held, token-held, begun, fails, not-allowed, either, and-then, expected, skipped, limited, repeated, some-separated}
+use Rattle.parsing_laws.proofs.Parsed.Parts.{Parsed, fine, Parses, Any, Limit, Ended, Held, token-held, begun, fails, not-allowed, either, and-then, expected, skipped, limited, repeated, some-separated}
 use Rattle.parsing_laws.proofs.Parsed.Limits.{passed, name-limit, array-limit, declaration-limit, main-limit}
 use Rattle.parsing_laws.proofs.Parsed.Names.{NamesOk}
 use Rattle.parsing_laws.proofs.Parsed.Forms.{all-snoc, constants, judged, in-range}
@@ -47,6 +47,10 @@ ItemOk sc item = ValueOk (item .1) × (sc .level ≡ Level.outer → sc .taken �
 -- no more values than the size
 abbrev ValuesOk : ℕ → List ℕ → Type 0
 ValuesOk size values = (length values ≤ size) × WordsOk values
+
+-- declarations that hold, and whose arrays have the program's flag
+abbrev Read : Bool → List Declaration → Type 0
+Read checked ds = DeclarationsOk ds × All (Flagged checked) ds
 
 module _ (source : List ℕ) where
   -- a new name is within its limit
@@ -98,13 +102,6 @@ module _ (source : List ℕ) where
 
   -- ---- Declarations
 
-  globals : (word : ItemKeyword) (ds : List Declaration) → DeclarationsOk ds → Parses source DeclarationsOk (parseGlobal source word ds)
-  unfolding parseGlobal
-  globals word ds d at h =
-      let k = declared d in
-      and-then (items (allocated ds .scope) (k .names) word at h)
-      (λ item p n h. fine (more ds (Declaration.item (item .0) (item .1)) d (p .0, p .1 (k .level) (k .few))) h)
-
   module _ {x : Context} {names : Names} (known : NamesOk x names) (size : ℕ) where
     initial : (values : List ℕ) → ValuesOk size values → Parses source (ValuesOk size) (parseInitial source names size values)
     unfolding parseInitial
@@ -122,67 +119,83 @@ module _ (source : List ℕ) where
         (λ values p n h. skipped Kinds.rightParenthesis h (λ m h. fine p h)))
         (λ e. fine (omega arith, tt) h)
 
-  arrays : (ds : List Declaration) → DeclarationsOk ds → Parses source DeclarationsOk (parseArray source ds)
-  unfolding parseArray
-  arrays ds d at h =
-      let k = declared d in
-      let st = allocated ds in
-      and-then (new-name (st .scope) (nameLimit (st .scope)) (name-limit (st .scope)) (token-held source h)) (λ name z n h.
-      skipped Kinds.leftBracket h (λ m h.
-      and-then (in-range source (k .names) (λ v. leb (sizeOf v) 8192) m h) (λ v q l h.
-      expected Kinds.rightBracket h (λ t i e j h.
-      limited (array-limit st (sizeOf v)) i (begun e) (λ y.
-      and-then (initials (k .names) (sizeOf v) j h) (λ values p r h.
-      fine (more ds (Declaration.array name (sizeOf v) values) d (omega (arith, room (st .scope) (k .level) z), leb-true (sizeOf v) 8192 q, p .0, p .1, y)) h))))))
+  -- `.CHECKED`, of which nothing need hold
+  pub flags : Parses source Any (parseChecked source)
+  unfolding parseChecked
+  flags at h = let t = tokenAt source at in either (is Kinds.CHECKED t) (λ e. skipped Kinds.semicolon (token-held source h .after) (λ n h. fine tt h)) (λ e. fine tt h)
 
-  -- a declaration that is judged at its last token
-  judged-declaration : (ds : List Declaration) (d : Declaration) → DeclarationsOk ds → (declarationLimit (allocated ds) d ≡ 0 → DeclarationOk (allocated ds) (kindsOf ds) d)
-      → {t : Token} → Held source t → (Ended t → ⊥) → Parsed source DeclarationsOk (parseLimited source ds d t)
-  unfolding parseLimited
-  judged-declaration ds d p k i b = limited (declaration-limit (allocated ds) d) i b (λ z. skipped Kinds.semicolon (i .after) (λ n h. fine (more ds d p (k z)) h))
+  module _ (checked : Bool) where
+    read-more : (ds : List Declaration) (d : Declaration) → Read checked ds → DeclarationOk (allocated ds) (kindsOf ds) d → Flagged checked d → Read checked (ds ++ (d ∷ []))
+    read-more ds d r ok flag = (more ds d (r .0) ok, all-snoc _ ds d (r .1) flag)
 
-  procedures : (ds : List Declaration) (accumulator : Bool) → DeclarationsOk ds → Parses source DeclarationsOk (parseProcedure source ds accumulator)
-  unfolding parseProcedure localWords
-  procedures ds accumulator d at h =
-      let k = declared d in
-      let sc = allocated ds .scope in
-      and-then (new-name sc (nameLimit sc) (name-limit sc) (token-held source h)) (λ name z n h.
-      skipped Kinds.semicolon h (λ m h.
-      skipped Kinds.BEGIN h (λ l h.
-      and-then (locals (kindsOf ds) sc name (k .names) l h) (λ ls p j h.
-      and-then (outermost source (body-names (kindsOf ds) sc name ls (k .names) p) j h) (λ body q r h.
-      expected Kinds.END h (λ t i e _ _.
-      judged-declaration ds (Declaration.procedure name accumulator ls body) d (λ y. (room sc (k .level) z, p, q, y)) i (begun e)))))))
+    globals : (word : ItemKeyword) (ds : List Declaration) → Read checked ds → Parses source (Read checked) (parseGlobal source word ds)
+    unfolding parseGlobal
+    globals word ds d at h =
+        let k = declared (d .0) in
+        and-then (items (allocated ds .scope) (k .names) word at h)
+        (λ item p n h. fine (read-more ds (Declaration.item (item .0) (item .1)) d (p .0, p .1 (k .level) (k .few)) tt) h)
 
-  accumulators : (ds : List Declaration) → DeclarationsOk ds → Parses source DeclarationsOk (parseAccumulator source ds)
-  unfolding parseAccumulator
-  accumulators ds d at h = skipped Kinds.PROCEDURE h (procedures ds true d)
+    arrays : (ds : List Declaration) → Read checked ds → Parses source (Read checked) (parseArray source checked ds)
+    unfolding parseArray
+    arrays ds d at h =
+        let k = declared (d .0) in
+        let st = allocated ds in
+        and-then (new-name (st .scope) (nameLimit (st .scope)) (name-limit (st .scope)) (token-held source h)) (λ name z n h.
+        skipped Kinds.leftBracket h (λ m h.
+        and-then (in-range source (k .names) (λ v. leb (sizeOf v) 8192) m h) (λ v q l h.
+        expected Kinds.rightBracket h (λ t i e j h.
+        limited (array-limit st (sizeOf v)) i (begun e) (λ y.
+        and-then (initials (k .names) (sizeOf v) j h) (λ values p r h.
+        fine (read-more ds (Declaration.array name (sizeOf v) checked values) d (omega (arith, room (st .scope) (k .level) z), leb-true (sizeOf v) 8192 q, p .0, p .1, y) refl) h))))))
 
-  -- what each declaration word begins, at a token of its kind
-  abbrev ParserOk : ℕ → (List Declaration → Token → Got (List Declaration)) → Type 0
-  ParserOk kind parse = (ds : List Declaration) → DeclarationsOk ds → (t : Token) → Held source t → t .kind ≡ kind → Parsed source DeclarationsOk (parse ds t)
+    -- a declaration that is judged at its last token
+    judged-declaration : (ds : List Declaration) (d : Declaration) → Read checked ds → Flagged checked d
+        → (declarationLimit (allocated ds) d ≡ 0 → DeclarationOk (allocated ds) (kindsOf ds) d) → {t : Token} → Held source t → (Ended t → ⊥) → Parsed source (Read checked) (parseLimited source ds d t)
+    unfolding parseLimited
+    judged-declaration ds d p flag k i b = limited (declaration-limit (allocated ds) d) i b (λ z. skipped Kinds.semicolon (i .after) (λ n h. fine (read-more ds d p (k z) flag) h))
 
-  word-rows : Rows ParserOk (declarationKeywords source)
-  word-rows =
-      row (λ ds d t i e. lists (globals ItemKeyword.integer) ds d (t .next) (i .after))
-      (row (λ ds d t i e. lists (globals ItemKeyword.constant) ds d (t .next) (i .after))
-      (row (λ ds d t i e. lists (globals ItemKeyword.compconstant) ds d (t .next) (i .after))
-      (row (λ ds d t i e. lists arrays ds d (t .next) (i .after))
-      (row (λ ds d t i e. judged-declaration ds Declaration.nextSector d (λ z. z) i (begun e))
-      (row (λ ds d t i e. procedures ds false d (t .next) (i .after))
-      (row (λ ds d t i e. accumulators ds d (t .next) (i .after))
-      last))))))
+    procedures : (ds : List Declaration) (accumulator : Bool) → Read checked ds → Parses source (Read checked) (parseProcedure source ds accumulator)
+    unfolding parseProcedure localWords
+    procedures ds accumulator d at h =
+        let k = declared (d .0) in
+        let sc = allocated ds .scope in
+        and-then (new-name sc (nameLimit sc) (name-limit sc) (token-held source h)) (λ name z n h.
+        skipped Kinds.semicolon h (λ m h.
+        skipped Kinds.BEGIN h (λ l h.
+        and-then (locals (kindsOf ds) sc name (k .names) l h) (λ ls p j h.
+        and-then (outermost source (body-names (kindsOf ds) sc name ls (k .names) p) j h) (λ body q r h.
+        expected Kinds.END h (λ t i e _ _.
+        judged-declaration ds (Declaration.procedure name accumulator ls body) d tt (λ y. (room sc (k .level) z, p, q, y)) i (begun e)))))))
 
-  pub declarations : Parses source DeclarationsOk (parseDeclarations source)
-  unfolding parseDeclarations
-  declarations =
-      repeated _ (λ ds d n h. row-of (Some (Parsed source DeclarationsOk)) (tokenAt source n) _ _ word-rows
-      (λ parse p. there (p ds d (tokenAt source n) (token-held source h) refl)) nothing) [] none
+    accumulators : (ds : List Declaration) → Read checked ds → Parses source (Read checked) (parseAccumulator source ds)
+    unfolding parseAccumulator
+    accumulators ds d at h = skipped Kinds.PROCEDURE h (procedures ds true d)
 
-  pub mains : (ds : List Declaration) → DeclarationsOk ds → Parses source WellFormed (parseMain source ds)
-  unfolding parseMain
-  mains ds d at h =
-      and-then (outermost source (declared d .names) at h) (λ main p n h.
-      expected Kinds.END h (λ t i e m h.
-      limited (main-limit (allocated ds) main) i (begun e) (λ z.
-      skipped Kinds.endOfSource h (λ l h. fine (record { declarations = d; main = p; fits = z }) h))))
+    -- what each declaration word begins, at a token of its kind
+    abbrev ParserOk : ℕ → (List Declaration → Token → Got (List Declaration)) → Type 0
+    ParserOk kind parse = (ds : List Declaration) → Read checked ds → (t : Token) → Held source t → t .kind ≡ kind → Parsed source (Read checked) (parse ds t)
+
+    word-rows : Rows ParserOk (declarationKeywords source checked)
+    word-rows =
+        row (λ ds d t i e. lists (globals ItemKeyword.integer) ds d (t .next) (i .after))
+        (row (λ ds d t i e. lists (globals ItemKeyword.constant) ds d (t .next) (i .after))
+        (row (λ ds d t i e. lists (globals ItemKeyword.compconstant) ds d (t .next) (i .after))
+        (row (λ ds d t i e. lists arrays ds d (t .next) (i .after))
+        (row (λ ds d t i e. judged-declaration ds Declaration.nextSector d tt (λ z. z) i (begun e))
+        (row (λ ds d t i e. procedures ds false d (t .next) (i .after))
+        (row (λ ds d t i e. accumulators ds d (t .next) (i .after))
+        last))))))
+
+    pub declarations : Parses source (Read checked) (parseDeclarations source checked)
+    unfolding parseDeclarations
+    declarations =
+        repeated _ (λ ds d n h. row-of (Some (Parsed source (Read checked))) (tokenAt source n) _ _ word-rows
+        (λ parse p. there (p ds d (tokenAt source n) (token-held source h) refl)) nothing) [] (none, tt)
+
+    pub mains : (ds : List Declaration) → Read checked ds → Parses source WellFormed (parseMain source checked ds)
+    unfolding parseMain
+    mains ds d at h =
+        and-then (outermost source (declared (d .0) .names) at h) (λ main p n h.
+        expected Kinds.END h (λ t i e m h.
+        limited (main-limit (allocated ds) main) i (begun e) (λ z.
+        skipped Kinds.endOfSource h (λ l h. fine (record { declarations = d .0; flags = d .1; main = p; fits = z }) h))))

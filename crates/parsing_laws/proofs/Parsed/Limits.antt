@@ -43,7 +43,7 @@ follow-limit st (suc n) l = l
 pub declaration-limit : (st : Allocation) (d : Declaration) → Limit (declarationLimit st d)
 unfolding declarationLimit
 declaration-limit st (Declaration.item name item) = passed
-declaration-limit st (Declaration.array name size values) = passed
+declaration-limit st (Declaration.array name size checked values) = passed
 declaration-limit st (Declaration.procedure name accumulator locals body) = sector-limit (allocate st (Declaration.procedure name accumulator locals body))
 declaration-limit st Declaration.nextSector = follow-limit st (sectorLimit st) (sector-limit st)
 

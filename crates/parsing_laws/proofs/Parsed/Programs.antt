@@ -16,7 +16,7 @@ use Rattle.parsing_laws.specs.Numbered.{Numbered, FailuresNumbered}
 use Rattle.parsing_laws.specs.WellFormed.{WellFormed, AcceptedWellFormed}
 use Rattle.parsing_laws.proofs.Parsed.Choices.{choice}
 use Rattle.parsing_laws.proofs.Parsed.Parts.{Failure, Parsed, fine, bad, and-then, skipped}
-use Rattle.parsing_laws.proofs.Parsed.Declarations.{declarations, mains}
+use Rattle.parsing_laws.proofs.Parsed.Declarations.{flags, declarations, mains}
 
 -- what becomes of a source
 data Outcome (source : List ℕ) : Got Program → Type 0 where
@@ -46,7 +46,8 @@ module _ (source : List ℕ) where
   unfolding parseProgram
   outcome =
       choice (Outcome source) (leb (length source) 8192) _ _
-      (λ e. short (leb-true (length source) 8192 e) (skipped Kinds.BEGIN (omega arith) (λ n h. and-then (declarations source n h) (mains source))))
+      (λ e. short (leb-true (length source) 8192 e) (skipped Kinds.BEGIN (omega arith) (λ n h.
+      and-then (flags source n h) (λ checked _ m h. and-then (declarations source checked m h) (mains source checked)))))
       (λ e. refused (too-long (leb-false (length source) 8192 e)))
 
 pub numbered : FailuresNumbered

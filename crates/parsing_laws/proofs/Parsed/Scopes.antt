@@ -1,6 +1,7 @@
 -- What the allocation after some declarations has declared: names, kinds and words agree.
 use Prim.Native.Nat.{ℕ, zero, suc, _+_, _≤_}
 use mathlib.Core.Path.{_≡_, refl, ap, sym, _∙_}
+use mathlib.Core.Bool.{Bool}
 use mathlib.Core.List.{List, [], _∷_, _++_, foldl-append, append-assoc}
 use native.Mathlib.Omega.{arith}
 use lib.ListN.{length, getD, length-append}
@@ -22,7 +23,7 @@ pub kinds-append : (ds es : List Declaration) → kindsOf (ds ++ es) ≡ kindsOf
 unfolding kindsOf
 kinds-append [] es = refl
 kinds-append (Declaration.item name item ∷ ds) es = ap (λ (l : List Kind). itemKinds item ++ l) (kinds-append ds es) ∙ sym (append-assoc (itemKinds item) (kindsOf ds) (kindsOf es))
-kinds-append (Declaration.array name size values ∷ ds) es = ap (λ (l : List Kind). Kind.array size ∷ l) (kinds-append ds es)
+kinds-append (Declaration.array name size checked values ∷ ds) es = ap (λ (l : List Kind). Kind.array size checked ∷ l) (kinds-append ds es)
 kinds-append (Declaration.procedure name accumulator locals body ∷ ds) es = ap (λ (l : List Kind). Kind.procedure ∷ l) (kinds-append ds es)
 kinds-append (Declaration.nextSector ∷ ds) es = kinds-append ds es
 
@@ -43,8 +44,8 @@ outer ks = record { globals = ks; own = 0; locals = 0 }
 cell-some : Kind.cell ≡ Kind.none → ⊥
 cell-some e = let z : _≡_ {A = ℕ} 0 1 = cc in omega arith
 
-pub array-some : (n : ℕ) → Kind.array n ≡ Kind.none → ⊥
-array-some n e = let z : _≡_ {A = ℕ} 0 1 = cc in omega arith
+pub array-some : (n : ℕ) (checked : Bool) → Kind.array n checked ≡ Kind.none → ⊥
+array-some n checked e = let z : _≡_ {A = ℕ} 0 1 = cc in omega arith
 
 pub procedure-some : Kind.procedure ≡ Kind.none → ⊥
 procedure-some e = let z : _≡_ {A = ℕ} 0 1 = cc in omega arith
@@ -59,7 +60,7 @@ module _ (ks : List Kind) (y : Context) (extends : Extends ks (y .globals)) wher
   symbol-wider (Symbol.integer i) h = id-wider i h
   symbol-wider (Symbol.constant i v) h = (id-wider i (h .0), h .1)
   symbol-wider (Symbol.compconstant v) h = h
-  symbol-wider (Symbol.array a) h = extends (a .number) (Kind.array (a .size)) (array-some (a .size)) h
+  symbol-wider (Symbol.array a) h = extends (a .number) (Kind.array (a .size) (a .checked)) (array-some (a .size) (a .checked)) h
   symbol-wider (Symbol.procedure p accumulator) h = extends p Kind.procedure procedure-some h
   symbol-wider Symbol.unknown h = tt
 
@@ -121,7 +122,7 @@ module _ (ds : List Declaration) (known : Declared ds) where
   taken (Declaration.item name Item.integer) h = name-taken sc ks _ name _ _ refl (h .1) cell-ok
   taken (Declaration.item name (Item.constant v)) h = name-taken sc ks _ name _ _ refl (h .1) (cell-ok, h .0)
   taken (Declaration.item name (Item.compconstant v)) h = name-taken sc ks _ name _ _ refl (h .1) (h .0)
-  taken (Declaration.array name size values) h = name-taken sc ks _ name _ _ refl (omega arith) (next-kind ks (Kind.array size) (sc .taken) (known .taken))
+  taken (Declaration.array name size checked values) h = name-taken sc ks _ name _ _ refl (omega arith) (next-kind ks (Kind.array size checked) (sc .taken) (known .taken))
   taken (Declaration.procedure name accumulator locals body) h =
       name-taken sc ks _ name _ _ refl (omega arith) (next-kind ks Kind.procedure (sc .taken) (known .taken))
   taken Declaration.nextSector h =

@@ -7,7 +7,7 @@ use lib.ListN.{length, getD, length-map, List·getD-map}
 use Rattle.machine.specs.declared.Machine.{Machine}
 use Rattle.machine.specs.State as machine
 use Rattle.tree.specs.Tree.{CellId, Program, sameCell}
-use Rattle.layout.specs.Map.{Role, initial, mapOf, imageOf, mapAt}
+use Rattle.layout.specs.Map.{Role, haltWord, initial, mapOf, imageOf, mapAt}
 use Rattle.compilation.specs.Compile.{Compiled, compiled}
 use Rattle.semantics.specs.Trace.{State}
 use Rattle.tree.specs.Variables.{variablesOf, constantsOf}
@@ -23,15 +23,19 @@ use Rattle.memory_map.proofs.LaidPrograms.{image-size}
 -- a word as the start has it
 valueIn : State → Role → ℕ
 valueIn σ (Role.fixed w) = w
+valueIn σ Role.stop = haltWord
 valueIn σ (Role.cell i v) = σ .cells i
 valueIn σ (Role.link p) = 0
+valueIn σ Role.saved = 0
 valueIn σ Role.free = 0
 
 held : (σ : State) (w : Role) → Holds σ w (initial w) (valueIn σ w)
 unfolding valueIn
 held σ (Role.fixed w) = refl
+held σ Role.stop = refl
 held σ (Role.cell i v) = refl
 held σ (Role.link p) = refl
+held σ Role.saved = tt
 held σ Role.free = refl
 
 loadedWith : Compiled → State → machine.State
@@ -63,8 +67,10 @@ loaded c a σ start = record {
 -- the address of a cell
 isCell : CellId → Role → Bool
 isCell i (Role.fixed w) = false
+isCell i Role.stop = false
 isCell i (Role.cell j v) = sameCell j i
 isCell i (Role.link p) = false
+isCell i Role.saved = false
 isCell i Role.free = false
 
 homeOf : CellId → List Role → ℕ
@@ -74,8 +80,10 @@ homeOf i (w ∷ ws) = cond (isCell i w) 0 (suc (homeOf i ws))
 held-cell : (i : CellId) (w : Role) → isCell i w ≡ true → w ≡ Role.cell i (initial w)
 unfolding isCell
 held-cell i (Role.fixed w) e = cc
+held-cell i Role.stop e = cc
 held-cell i (Role.cell j v) e = ap (λ (c : CellId). Role.cell c v) (same-cell j i e)
 held-cell i (Role.link p) e = cc
+held-cell i Role.saved e = cc
 held-cell i Role.free e = cc
 
 -- a cell that stands somewhere is found
@@ -120,15 +128,23 @@ module _ (c : Compiled) (a : Accepted c) (m : Machine) (memory : List ℕ) (fill
       by-word k e (Fills.given j u n f) =
           let same : j ≡ i = cc in
           absurd (apart p i v (subst (λ (d : CellId). List·Memᴰ d (variablesOf p)) same n) h)
+      by-word k e (Fills.saved f) = cc
 
   as-held : (k : ℕ) → Fills c k (getD memory k 0) → (w : Role) → mapAt p k ≡ w → Holds startOf w (getD (c .image) k 0) (getD memory k 0)
   as-held k (Fills.laid l) (Role.fixed w) e = l
+  as-held k (Fills.laid l) Role.stop e = l
   as-held k f (Role.cell i v) e = at-home i v k e
   as-held k (Fills.laid l) (Role.link q) e = l
+  as-held k f Role.saved e = tt
   as-held k (Fills.laid l) Role.free e = l
   as-held k (Fills.given i u n f) (Role.fixed w) e = cc
+  as-held k (Fills.given i u n f) Role.stop e = cc
   as-held k (Fills.given i u n f) (Role.link q) e = cc
   as-held k (Fills.given i u n f) Role.free e = cc
+  as-held k (Fills.saved f) (Role.fixed w) e = cc
+  as-held k (Fills.saved f) Role.stop e = cc
+  as-held k (Fills.saved f) (Role.link q) e = cc
+  as-held k (Fills.saved f) Role.free e = cc
 
   filled : length memory ≡ 16384 → m .p ≡ c .entry → m .halted ≡ false → Loaded c startOf (machine.state m memory)
   unfolding startOf

@@ -2,10 +2,11 @@
 use Rattle.semantics.specs.Agreement.{Demand3}
 use Rattle.memory_map.proofs.Accepted.{accepted}
 use Rattle.semantics.proofs.Simulation.Top.{agrees}
-use Rattle.memory_map.proofs.LaidPrograms.{placed, laid-at, image-at}
+use Rattle.memory_map.proofs.LaidPrograms.{placed, laid-at, image-at, end-at}
 
 pub demand3 : Demand3
 unfolding Demand3
 demand3 source c e σ s l =
     let a = accepted source c e in
-    agrees c (image-at c a) (a .well-formed) (laid-at c a) (placed (c .program) (a .well-formed) .homes) σ s l
+    let p = placed (c .program) (a .well-formed) in
+    agrees c (image-at c a) (a .well-formed) (laid-at c a) (p .homes) (p .saved-at) (end-at c a) σ s l

@@ -12,8 +12,8 @@ use Rattle.machine.specs.State as machine
 use Rattle.tree.specs.Tree.{Relation}
 use Rattle.layout.specs.Words.{Control, controls}
 use Rattle.semantics.specs.Trace.{State}
-use Rattle.semantics.specs.Acts.{tick}
-use Rattle.semantics.specs.Meaning.{Order, orderOf, holds, wordsAfter, ticks}
+use Rattle.semantics.specs.Acts.{tick, ticks}
+use Rattle.semantics.specs.Meaning.{Order, orderOf, holds, wordsAfter}
 use Rattle.memory_map.specs.Laid.{Map, Sound, LaidJump, controlSits, LaidControls}
 use Rattle.semantics.proofs.Simulation.Relate.{Links, At}
 use Rattle.semantics.proofs.Simulation.Instructions.{next, over, do-test, do-jump}

@@ -135,7 +135,7 @@ module _ (f g : ℕ) (l : f ≤ g) where
   declaration-begins : (n : ℕ) {before after : Procedures} → Extends before after → (d : Declaration) → Extends (withDeclaration f n before d) (withDeclaration g n after d)
   unfolding withDeclaration
   declaration-begins n k (Declaration.item name item) q σ = k q σ
-  declaration-begins n k (Declaration.array name size values) q σ = k q σ
+  declaration-begins n k (Declaration.array name size checked values) q σ = k q σ
   declaration-begins n k (Declaration.procedure name accumulator locals body) q σ = cond-both (eqb q n) (outermost-begins k f g l body σ) (k q σ)
   declaration-begins n k Declaration.nextSector q σ = k q σ
 

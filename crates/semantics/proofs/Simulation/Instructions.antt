@@ -11,9 +11,10 @@ use borrow.Author.Tests.{lt-leb}
 use Rattle.word.specs.Arithmetic.{bit, compareOf}
 use Rattle.effect.specs.Effects.{operateOf, unaryOf}
 use Rattle.effect.specs.Skips.{skipsOf}
-use Rattle.instruction.specs.Opcode.{JMP, STA, JST, CAS, IRS, LDX}
+use Rattle.instruction.specs.Opcode.{JMP, LDA, STA, JST, CAS, IRS, LDX}
 use Rattle.instruction.specs.Slot.{HLT}
-use Rattle.instruction.specs.Decode.{decodeDef}
+use Rattle.instruction.specs.Table.{generics, tableOf}
+use Rattle.instruction.specs.Decode.{findWord, genericOf, decodeDef}
 use Rattle.instruction.specs.Field.{TAG, INDIRECT, indirectOf, tagOf}
 use Rattle.instruction.specs.declared.Instruction.the-variants.{Shift, Generic}
 use Rattle.machine.specs.declared.Machine.{Machine}
@@ -25,11 +26,12 @@ use Rattle.machine.proofs.Chains.{follow-end, follow-more, onwards}
 use Rattle.machine.proofs.Good.{step-of}
 use Rattle.runs.specs.Steps.{Steps}
 use Rattle.tree.specs.Tree.{CellId, Array, Operand, isInside}
-use Rattle.layout.specs.Map.{Role}
+use Rattle.layout.specs.Map.{Role, haltWord}
+use Rattle.layout.specs.Addresses.{savedWord}
 use Rattle.semantics.specs.Trace.{State}
-use Rattle.semantics.specs.Acts.{withRegisters, store, tick, xCell, Place, placeOf, valueOf, loadX, generic, shifted}
-use Rattle.memory_map.specs.Laid.{Map, Sound, Sits, Refers, Direct, ArrayWord, ProcedureWord, LaidJump}
-use Rattle.semantics.proofs.Simulation.Relate.{Pending, Links, pend, machineOf, At, peek, stepped, stored, linked}
+use Rattle.semantics.specs.Acts.{withRegisters, store, tick, xCell, Place, placeOf, valueOf, index, loadX, generic, shifted}
+use Rattle.memory_map.specs.Laid.{Map, Sound, Sits, Stops, Refers, Direct, ArrayWord, ProcedureWord, LaidJump}
+use Rattle.semantics.proofs.Simulation.Relate.{Pending, Links, pend, machineOf, At, peek, stepped, stored, linked, kept}
 
 -- ---- P after a step
 
@@ -77,6 +79,14 @@ link-small : (old a : ℕ) → old < 16384 → suc a < 16384 → old / 16384 * 1
 link-small old a b c =
     let z : old / 16384 ≡ 0 = omega arith in
     rw (z, next a c) (omega arith)
+
+-- an address has 14 bits, so that more than 16 of X are of no account
+same-address : (base x : ℕ) → (base + x) % 16384 ≡ (base + x % 65536) % 16384
+same-address base x = omega arith
+
+halt-decodes : decodeDef haltWord ≡ Generic HLT
+unfolding decodeDef genericOf findWord generics tableOf
+halt-decodes = refl
 
 -- ---- Kinds of instructions
 
@@ -127,6 +137,14 @@ module _ (M : Map) (sound : Sound M) (s₀ : machine.State) {κ : Links} {a : �
       step-of (machineOf σ a) m (ap decodeDef w ∙ s .decodes)
       ∙ ap (λ (p : ℕ). made (machine.state (machine.stopped (machineOf σ p)) m)) (next a (s .below))
 
+  -- the HLT of a test
+  pub do-stop : Stops M a → stepDef (machine.state (machineOf σ a) m) ≡ made (machine.state (machine.stopped (machineOf σ (suc a))) m)
+  unfolding genericDef
+  do-stop s =
+      let w : getD m a 0 ≡ haltWord = peek M sound s₀ h a Role.stop (omega (arith, s .below)) (s .here) in
+      step-of (machineOf σ a) m (ap decodeDef w ∙ halt-decodes)
+      ∙ ap (λ (p : ℕ). made (machine.state (machine.stopped (machineOf σ p)) m)) (next a (s .below))
+
   -- ---- Memory references
 
   memory-made : {code k e n : ℕ} {indirect : Bool} {u : machine.State} → Refers M a code indirect k → followOf m 16 indirect k ≡ address.At e n
@@ -143,14 +161,32 @@ module _ (M : Map) (sound : Sound M) (s₀ : machine.State) {κ : Links} {a : �
   value-at : {indirect : Bool} {k : ℕ} {l : Place} (o : Located M m indirect k l) → getD m (o .word) 0 ≡ valueOf l σ
   value-at {l = l} o = value l (o .word) (o .below) (o .here)
 
-  pub do-read : {code k : ℕ} {indirect : Bool} {l : Place} → Reads code → Refers M a code indirect k → Located M m indirect k l
-      → At M sound s₀ κ (suc a) (withRegisters σ (operateOf code (valueOf l σ) (σ .registers))) m
-  do-read {code} {l = l} reads r o = record {
-    made = memory-made r (o .found) (reads (o .word) (machineOf σ a) m
-        ∙ ap₂ (λ (v p : ℕ). machine.state (machineOf (withRegisters σ (operateOf code v (σ .registers))) p) m) (value-at o) (next a (r .sits .below)));
+  -- the word at e is read
+  read-at : {code k e n v : ℕ} {indirect : Bool} → Reads code → Refers M a code indirect k → followOf m 16 indirect k ≡ address.At e n → getD m e 0 ≡ v
+      → At M sound s₀ κ (suc a) (withRegisters σ (operateOf code v (σ .registers))) m
+  read-at {code} {e = e} reads r found is = record {
+    made = memory-made r found (reads e (machineOf σ a) m
+        ∙ ap₂ (λ (v p : ℕ). machine.state (machineOf (withRegisters σ (operateOf code v (σ .registers))) p) m) is (next a (r .sits .below)));
     size = h .size;
     serves = h .serves;
   }
+
+  pub do-read : {code k : ℕ} {indirect : Bool} {l : Place} → Reads code → Refers M a code indirect k → Located M m indirect k l
+      → At M sound s₀ κ (suc a) (withRegisters σ (operateOf code (valueOf l σ) (σ .registers))) m
+  do-read reads r o = read-at reads r (o .found) (value-at o)
+
+  -- A is kept while a subscript is tested, and is back
+  pub do-save : Refers M a STA false savedWord → M savedWord ≡ Role.saved → At M sound s₀ κ (suc a) (tick σ) (set m savedWord (σ .registers .a))
+  unfolding memoryDef
+  do-save r here = record {
+    made = memory-made r (follow-end m 16 savedWord (le-refl 16)) (ap (λ (p : ℕ). machine.state (machineOf σ p) (set m savedWord (σ .registers .a))) (next a (r .sits .below)));
+    size = length-set m savedWord (σ .registers .a) ∙ h .size;
+    serves = kept M sound s₀ h savedWord (σ .registers .a) (omega arith) here;
+  }
+
+  pub do-restore : {v : ℕ} → Reads LDA → Refers M a LDA false savedWord → getD m savedWord 0 ≡ v
+      → At M sound s₀ κ (suc a) (withRegisters σ (operateOf LDA v (σ .registers))) m
+  do-restore reads r is = read-at reads r (follow-end m 16 savedWord (le-refl 16)) is
 
   pub do-store : {k : ℕ} {indirect : Bool} {i : CellId} → Refers M a STA indirect k → (o : Located M m indirect k (Place.held i))
       → At M sound s₀ κ (suc a) (store i (σ .registers .a) σ) (set m (o .word) (σ .registers .a))
@@ -229,13 +265,13 @@ module _ (M : Map) (sound : Sound M) (s₀ : machine.State) {κ : Links} {a : �
   located-direct {k = k} (Direct.literal b w e) = record { word = k; passed = 0; found = follow-end m 16 k (le-refl 16); below = b; here = e }
 
   -- an element of an array, by X
-  pub located-element : {r : Array} {k : ℕ} → ArrayWord M r k → isInside r (σ .cells xCell) ≡ true
-      → Located M m true k (Place.held (CellId.element (r .number) (σ .cells xCell)))
+  pub located-element : {r : Array} {k : ℕ} → ArrayWord M r k → isInside r (index σ) ≡ true
+      → Located M m true k (Place.held (CellId.element (r .number) (index σ)))
   located-element {r} {k} w b = record {
     word = (w .word % 16384 + σ .cells xCell) % 16384;
     passed = 1;
     found = follow-array m k (w .word) (σ .cells xCell) (peek M sound s₀ h k (Role.fixed (w .word)) (w .below) (w .here)) (w .straight) (w .tagged)
         (peek M sound s₀ h 0 (Role.cell xCell 0) (omega arith) (sound .x-at));
     below = mod-lt _ (omega arith);
-    here = (w .initial (σ .cells xCell), w .elements (σ .cells xCell) b);
+    here = (w .initial (index σ), ap M (same-address (w .word % 16384) (σ .cells xCell)) ∙ w .elements (index σ) b);
   }

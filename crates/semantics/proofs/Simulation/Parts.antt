@@ -1,6 +1,6 @@
 -- The machine follows the parts of forms that hold no expression or statement, where they stand in the map: cells, unary words, operations, tests, relations, ends.
 use Prim.Native.Nat.{ℕ, zero, suc, _+_, _%_, _≤_, _<_}
-use mathlib.Core.Path.{_≡_, sym, subst}
+use mathlib.Core.Path.{_≡_, refl, sym, ap, subst}
 use mathlib.Core.Bool.{Bool, true, false}
 use mathlib.Core.List.{List}
 use native.Mathlib.Nat.{le-refl, le-trans}
@@ -18,10 +18,11 @@ use Rattle.tree.specs.Tree.{CellId, Array, Subscript, Cell, Unary, Operator, Op
 use Rattle.layout.specs.Words.{Plain, operatorForm, controls, targetCell}
 use Rattle.layout.specs.Map.{Role}
 use Rattle.semantics.specs.Trace.{State, Trace, bind, next, ended}
-use Rattle.semantics.specs.Acts.{tick, xCell, Place, placeOf, valueOf, subscripted, element, entered, asPlace, reach, operate, storeA, setX, absolute, plainOn, test, jump, counted}
-use Rattle.semantics.specs.Meaning.{unaryOn, unariesOn, operatorOn, operationOn, operationsOn, chosen, orderOf, wordsAfter, ticks, related, assigned}
-use Rattle.memory_map.specs.Laid.{Map, Sound, Sits, Refers, ArrayWord, LaidSubscript, LaidCell, LaidOn, LaidJump, LaidPlain, LaidUnary, LaidUnaries, LaidOperations, LaidControls}
-use Rattle.semantics.proofs.Simulation.Relate.{Links, At, stands, Ok, ok-done, ok-broke, ok-observe, follow}
+use Rattle.semantics.specs.Acts.{tick, ticks, xCell, Place, placeOf, valueOf, index, subscripted, passSteps, tested, element, entered, asPlace, reach, operate, storeA, setX, absolute, plainOn, test, jump, counted}
+use Rattle.semantics.specs.Meaning.{unaryOn, unariesOn, operatorOn, operationOn, operationsOn, chosen, orderOf, wordsAfter, related, assigned}
+use Rattle.memory_map.specs.Laid.{Map, Sound, Sits, Refers, ArrayWord, LaidLoad, LaidTest, LaidSubscript, LaidCell, LaidOn, LaidJump, LaidPlain, LaidUnary, LaidUnaries, LaidOperations, LaidControls}
+use Rattle.semantics.proofs.Simulation.Relate.{Links, At, stands, Left, Ok, ok-done, ok-broke, ok-observe, follow}
+use Rattle.semantics.proofs.Simulation.Tests.{untested, ticked, pass, stop}
 use Rattle.semantics.proofs.Simulation.Instructions as instructions
 use Rattle.semantics.proofs.Simulation.Instructions.{Located, Reads, Skips, do-generic, do-shift, do-test, do-read, do-store, do-load-x, do-jump, do-compare, do-count, located-direct, located-element}
 use Rattle.semantics.proofs.Simulation.Classes.{form-acts, complement-acts, sign-skips, Acts, UnaryActs, unary-acts}
@@ -32,6 +33,16 @@ le₁ n = omega arith
 
 pub le₂ : (n : ℕ) → n ≤ suc (suc n)
 le₂ n = omega arith
+
+ticks-up : (n : ℕ) (σ : State) → σ .steps ≤ ticks n σ .steps
+unfolding ticks
+ticks-up zero σ = le-refl _
+ticks-up (suc n) σ = le-trans (le₁ (σ .steps)) (ticks-up n (tick σ))
+
+ticks-cells : (n : ℕ) (σ : State) → ticks n σ .cells ≡ σ .cells
+unfolding ticks
+ticks-cells zero σ = refl
+ticks-cells (suc n) σ = ticks-cells n (tick σ)
 
 module _ (M : Map) (sound : Sound M) (s₀ : machine.State) (N : ℕ) where
   -- the trace is followed, and its end stands at p
@@ -52,16 +63,32 @@ module _ (M : Map) (sound : Sound M) (s₀ : machine.State) (N : ℕ) where
   abbrev Enters : Links → ℕ → ℕ → ℕ → Trace CellId → Type 0
   Enters κ b k low t = Ok M sound s₀ N (λ j. Found κ b true k (Place.held j)) low t
 
-  named : {κ : Links} {r : Array} {b k low : ℕ} {σ : State} {m : List ℕ} → low ≤ σ .steps → ArrayWord M r k → At M sound s₀ κ b σ m → Enters κ b k low (element r σ)
+  named : {κ : Links} {r : Array} {a b k low : ℕ} {σ : State} {m : List ℕ} → low ≤ σ .steps → LaidTest M r a b → ArrayWord M r k → At M sound s₀ κ a σ m → Enters κ b k low (element r σ)
   unfolding element
-  named {κ} {r} {b} {k} {low} {σ} {m} l w h =
-      cond-when (Enters κ b k low) (isInside r (σ .cells xCell)) _ _ (λ e. ok-done m l (h, located-element M sound s₀ h w e)) (λ e. ok-broke l (stands M sound s₀ h))
+  named {κ} {r} {a} {b} {k} {low} {σ} {m} l t w h = cond-when (Enters κ b k low) (isInside r (index σ)) _ _ (inside t) (outside t)
+    where
+      -- the memory and the state behind the test, where X is the element's
+      found : {b : ℕ} {τ : State} {n : List ℕ} → low ≤ τ .steps → τ .cells ≡ σ .cells → tested r σ ≡ τ → At M sound s₀ κ b τ n → isInside r (index σ) ≡ true
+          → Enters κ b k low (Trace.done (CellId.element (r .number) (index σ)) (tested r σ))
+      found {b} {τ} {n} u same is g i =
+          let x : index σ ≡ index τ = ap (λ (c : CellId → ℕ). c xCell % 65536) (sym same) in
+          rw (is, x) (ok-done n u (g, located-element M sound s₀ g w (rw (← x) i)))
+
+      inside : {b : ℕ} → LaidTest M r a b → isInside r (index σ) ≡ true → Enters κ b k low (Trace.done (CellId.element (r .number) (index σ)) (tested r σ))
+      inside (LaidTest.none e free) i = found l refl (untested r σ e) h i
+      inside (LaidTest.words e here t) i =
+          let n = passSteps r (index σ) in
+          found (le-trans l (ticks-up n σ)) (ticks-cells n σ) (ticked r σ e) (pass M sound s₀ h here (w .small) t i) i
+
+      outside : {b : ℕ} → LaidTest M r a b → isInside r (index σ) ≡ false → Enters κ b k low (Trace.broke σ)
+      outside (LaidTest.none e free) i = ok-broke l (stands M sound s₀ h) (Left.untested free)
+      outside (LaidTest.words e here t) i = ok-broke l (stands M sound s₀ h) (Left.tested (stop M sound s₀ h here (w .small) t i))
 
   sim-entered : {κ : Links} {r : Array} {s : Subscript} {a b k : ℕ} {σ : State} {m : List ℕ} → LaidSubscript M r s a b → ArrayWord M r k → At M sound s₀ κ a σ m
       → Enters κ b k (σ .steps) (entered r s σ)
   unfolding entered subscripted
-  sim-entered {σ = σ} (LaidSubscript.by r d) w h = named (le₁ (σ .steps)) w (do-load-x M sound s₀ h r (located-direct M sound s₀ h d))
-  sim-entered LaidSubscript.hash w h = named (le-refl _) w h
+  sim-entered {σ = σ} (LaidSubscript.both (LaidLoad.by r d) t) w h = named (le₁ (σ .steps)) t w (do-load-x M sound s₀ h r (located-direct M sound s₀ h d))
+  sim-entered (LaidSubscript.both LaidLoad.hash t) w h = named (le-refl _) t w h
 
   sim-cell : {κ : Links} {c : Cell} {a b k : ℕ} {indirect : Bool} {σ : State} {m : List ℕ} → LaidCell M c a b indirect k → At M sound s₀ κ a σ m
       → Ok M sound s₀ N (Found κ b indirect k) (σ .steps) (reach c σ)
@@ -145,11 +172,6 @@ module _ (M : Map) (sound : Sound M) (s₀ : machine.State) (N : ℕ) where
       cond-when (λ (t : Trace Bool). Forks κ (suc (suc n)) z (σ .steps) t) (skipsOf slot (σ .registers) (σ .switches)) _ _
       (λ e. ok-done m (le₁ (σ .steps)) (do-test M sound s₀ h skips s true e (instructions.over n (jump-below M sound s₀ j))))
       (λ e. ok-done m (le₂ (σ .steps)) (do-jump M sound s₀ (do-test M sound s₀ h skips s false e (instructions.next n (s .below))) j))
-
-  ticks-up : (n : ℕ) (σ : State) → σ .steps ≤ ticks n σ .steps
-  unfolding ticks
-  ticks-up zero σ = le-refl _
-  ticks-up (suc n) σ = le-trans (le₁ (σ .steps)) (ticks-up n (tick σ))
 
   -- CAS and the words after it
   sim-related : {κ : Links} {k n b z : ℕ} {indirect : Bool} {l : Place} {σ : State} {m : List ℕ} (r : Relation) → Refers M n CAS indirect k

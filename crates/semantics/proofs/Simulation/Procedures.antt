@@ -17,7 +17,7 @@ use Rattle.semantics.proofs.Simulation.Statements.{obeys-none, obeys-mo
 
 abbrev BodyOk : Declaration → Type 0
 BodyOk (Declaration.item name item) = Unit {0}
-BodyOk (Declaration.array name size values) = Unit {0}
+BodyOk (Declaration.array name size checked values) = Unit {0}
 BodyOk (Declaration.procedure name accumulator locals body) = (x : Context) × StmtsBy (StmtOk x 33) body
 BodyOk Declaration.nextSector = Unit {0}
 
@@ -27,7 +27,7 @@ BodiesOk (d ∷ ds) = BodyOk d × BodiesOk ds
 
 body-ok : (st : layout.Allocation) (kinds : List Kind) (d : Declaration) → DeclarationOk st kinds d → BodyOk d
 body-ok st kinds (Declaration.item name item) h = tt
-body-ok st kinds (Declaration.array name size values) h = tt
+body-ok st kinds (Declaration.array name size checked values) h = tt
 body-ok st kinds (Declaration.procedure name accumulator locals body) h = (_, h .2)
 body-ok st kinds Declaration.nextSector h = tt
 
@@ -53,7 +53,7 @@ module _ (M : Map) where
   laid-without : (n : ℕ) (ps : Known) (d : Declaration) → LaidProcedures M (withProcedure n ps d) → LaidProcedures M ps
   unfolding withProcedure
   laid-without n ps (Declaration.item name item) k = k
-  laid-without n ps (Declaration.array name size values) k = k
+  laid-without n ps (Declaration.array name size checked values) k = k
   laid-without n ps (Declaration.procedure name accumulator locals body) k = latest k .before
   laid-without n ps Declaration.nextSector k = k
 
@@ -69,7 +69,7 @@ module _ (M : Map) where
         → LaidProcedures M (withProcedure n ps d) → Obeys M sound s₀ N fuel (withProcedure n ps d) (withDeclaration fuel n procedures d)
     unfolding withProcedure withDeclaration
     obeys-with n ps procedures (Declaration.item name item) obeys o k = obeys
-    obeys-with n ps procedures (Declaration.array name size values) obeys o k = obeys
+    obeys-with n ps procedures (Declaration.array name size checked values) obeys o k = obeys
     obeys-with n ps procedures (Declaration.procedure name accumulator locals body) obeys o k =
         let l = latest k in obeys-more M sound s₀ N fuel (o .0) obeys (o .1) (l .laid) (l .fresh)
     obeys-with n ps procedures Declaration.nextSector obeys o k = obeys

@@ -7,10 +7,10 @@
 --        machine    p, memory m ── σ' .steps - σ .steps steps ─▶ p', memory m'
 --
 -- `At κ p σ m` says: the machine that started as s₀ has made σ's number of steps and stands at p, with σ's registers and switches and the memory m, each of whose words serves what the map says that it is for: a fixed word is what it was, a cell
--- has σ's value, a link holds an address of the memory, and the link of a procedure that a call is waiting on (κ) the one to return to; a word that is not used may hold anything. κ is the same at both ends of a part: a call adds to it, and its return takes that back.
+-- has σ's value, a link holds an address of the memory, and the link of a procedure that a call is waiting on (κ) the one to return to; a word that is not used may hold anything, and so may the one that keeps A in a test. κ is the same at both ends of a part: a call adds to it, and its return takes that back.
 -- Instructions and Classes move `At` on by one instruction. `Follows` and `Forks` (Parts) are the diagram for a part and for a condition. `Ok` carries it along a trace, to every observation, to a break-off and to the end, and `follow` joins one part to the next:
 -- so each form is a few lines (Expressions, Statements).
-use Prim.Native.Nat.{ℕ, suc, _≤_, _<_}
+use Prim.Native.Nat.{ℕ, suc, _+_, _≤_, _<_}
 use mathlib.Core.Path.{_≡_, refl, ap, _∙_, subst}
 use mathlib.Core.Bool.{false}
 use mathlib.Core.List.{List}
@@ -29,10 +29,11 @@ use Rattle.machine.proofs.Good.{step-of}
 use Rattle.runs.specs.Steps.{Steps, none, one}
 use Rattle.runs.proofs.Iteration.{steps-join}
 use Rattle.tree.specs.Tree.{CellId}
-use Rattle.layout.specs.Map.{Role}
+use Rattle.layout.specs.Map.{Role, haltWord}
+use Rattle.layout.specs.Addresses.{savedWord}
 use Rattle.semantics.specs.Trace.{State, Trace, bind}
-use Rattle.semantics.specs.Acts.{updated}
-use Rattle.memory_map.specs.Laid.{Map, Sound, Sits}
+use Rattle.semantics.specs.Acts.{updated, xCell, index, stopSteps}
+use Rattle.memory_map.specs.Laid.{Map, Sound, Sits, Stops}
 use Rattle.semantics.proofs.Simulation.Cells.{updated-same, updated-other}
 
 -- ---- Links
@@ -71,8 +72,10 @@ Fits (Pending.busy u) v = v ≡ u
 -- the word v serves what the map says that it is for
 abbrev pub Serves : Links → (CellId → ℕ) → Role → ℕ → Type 0
 Serves κ c (Role.fixed w) v = v ≡ w
+Serves κ c Role.stop v = v ≡ haltWord
 Serves κ c (Role.cell i w) v = v ≡ c i
 Serves κ c (Role.link q) v = (v < 16384) × Fits (κ q) v
+Serves κ c Role.saved v = Unit {0}
 Serves κ c Role.free v = Unit {0}
 
 -- a running machine with the registers and switches of σ
@@ -107,9 +110,11 @@ module _ (M : Map) (sound : Sound M) (s₀ : machine.State) where
     where
       other : (it : Role) → (k ≡ e → ⊥) → M k ≡ it → Serves κ (updated (σ .cells) i v) it (getD (set m e v) k 0)
       other (Role.fixed u) n it = rw (getD-set-other m e k v 0 n) (peek h k (Role.fixed u) kb it)
+      other Role.stop n it = rw (getD-set-other m e k v 0 n) (peek h k Role.stop kb it)
       other (Role.cell j u) n it =
           rw (getD-set-other m e k v 0 n, updated-other (σ .cells) i j v (λ q. n (sound .once k e j u w it (here ∙ ap (λ (c : CellId). Role.cell c w) q)))) (peek h k (Role.cell j u) kb it)
       other (Role.link q) n it = rw (getD-set-other m e k v 0 n) (peek h k (Role.link q) kb it)
+      other Role.saved n it = tt
       other Role.free n it = tt
 
       go : Dec (k ≡ e) → Serves κ (updated (σ .cells) i v) (M k) (getD (set m e v) k 0)
@@ -123,9 +128,11 @@ module _ (M : Map) (sound : Sound M) (s₀ : machine.State) where
     where
       other : (it : Role) → (k ≡ e → ⊥) → M k ≡ it → Serves (pend κ q v) (σ .cells) it (getD (set m e v) k 0)
       other (Role.fixed u) n it = rw (getD-set-other m e k v 0 n) (peek h k (Role.fixed u) kb it)
+      other Role.stop n it = rw (getD-set-other m e k v 0 n) (peek h k Role.stop kb it)
       other (Role.cell j u) n it = rw (getD-set-other m e k v 0 n) (peek h k (Role.cell j u) kb it)
       other (Role.link r) n it =
           rw (getD-set-other m e k v 0 n, pend-other κ q r v (λ s. n (sound .link-once k e r it (here ∙ ap Role.link s)))) (peek h k (Role.link r) kb it)
+      other Role.saved n it = tt
       other Role.free n it = tt
 
       go : Dec (k ≡ e) → Serves (pend κ q v) (σ .cells) (M k) (getD (set m e v) k 0)
@@ -142,9 +149,20 @@ module _ (M : Map) (sound : Sound M) (s₀ : machine.State) where
 
       go : (k : ℕ) → k < 16384 → (it : Role) → M k ≡ it → Serves κ (σ .cells) (M k) (getD m k 0)
       go k kb (Role.fixed w) it = rw it (peek h k (Role.fixed w) kb it)
+      go k kb Role.stop it = rw it (peek h k Role.stop kb it)
       go k kb (Role.cell i w) it = rw it (peek h k (Role.cell i w) kb it)
       go k kb (Role.link r) it = rw it (peek h k (Role.link r) kb it .0, link-at k r kb it (ℕ-discrete q r))
+      go k kb Role.saved it = rw it tt
       go k kb Role.free it = rw it tt
+
+  -- a store to the word that keeps A in a test changes nothing that the meaning knows of
+  pub kept : {κ : Links} {p : ℕ} {σ : State} {m : List ℕ} → At κ p σ m → (e v : ℕ) → e < 16384 → M e ≡ Role.saved
+      → (k : ℕ) → k < 16384 → Serves κ (σ .cells) (M k) (getD (set m e v) k 0)
+  kept {κ} {p} {σ} {m} h e v b here k kb = go (ℕ-discrete k e)
+    where
+      go : Dec (k ≡ e) → Serves κ (σ .cells) (M k) (getD (set m e v) k 0)
+      go (yes q) = rw (q, here) tt
+      go (no n) = rw (getD-set-other m e k v 0 n) (h .serves k kb)
 
   -- ---- Traces
 
@@ -158,24 +176,42 @@ module _ (M : Map) (sound : Sound M) (s₀ : machine.State) where
   abbrev pub stands : {κ : Links} {p : ℕ} {σ : State} {m : List ℕ} → At κ p σ m → Stands σ
   stands {κ} {p} {σ} {m} h = record { links = κ; p = p; image = m; at = h }
 
+  -- the machine comes to the HLT of a test: X is in A, and the word that keeps A has σ's
+  pub record Stopping (σ : State) : Type 0 where
+    pub links : Links
+    pub p : ℕ
+    pub now : State
+    pub image : List ℕ
+    pub stop : Stops M p
+    pub at : At links p now image
+    pub cells : now .cells ≡ σ .cells
+    pub registers : now .registers ≡ record { a = σ .cells xCell; b = σ .registers .b; c = σ .registers .c }
+    pub steps : suc (now .steps) ≡ σ .steps + stopSteps (index σ)
+    pub saved : getD image savedWord 0 ≡ σ .registers .a
+
+  -- after a break-off: the subscript is not tested, and then none of the program is; or the machine comes to the test's HLT
+  pub data Left (σ : State) : Type 0 where
+    untested : M savedWord ≡ Role.free → Left σ
+    tested : Stopping σ → Left σ
+
   -- The machine comes to every state that the trace shows, their numbers never fall from `low` on, and the end has Q.
   -- A trace that ran out of fuel has made N steps at least.
   pub data Ok {A : Type 0} (N : ℕ) (Q : A → State → List ℕ → Type 0) : ℕ → Trace A → Type 0 where
     ok-done : {low : ℕ} {a : A} {σ : State} (m : List ℕ) → low ≤ σ .steps → Q a σ m → Ok N Q low (Trace.done a σ)
-    ok-broke : {low : ℕ} {σ : State} → low ≤ σ .steps → Stands σ → Ok N Q low (Trace.broke σ)
+    ok-broke : {low : ℕ} {σ : State} → low ≤ σ .steps → Stands σ → Left σ → Ok N Q low (Trace.broke σ)
     ok-out : {low : ℕ} {σ : State} → low ≤ σ .steps → N ≤ σ .steps → Stands σ → Ok N Q low (Trace.out σ)
     ok-observe : {low : ℕ} {σ : State} {t : Trace A} → low ≤ σ .steps → Stands σ → Ok N Q (σ .steps) t → Ok N Q low (Trace.observe σ t)
 
   pub lower : {A : Type 0} {N : ℕ} {Q : A → State → List ℕ → Type 0} {low high : ℕ} {t : Trace A} → low ≤ high → Ok N Q high t → Ok N Q low t
   lower l (ok-done m h q) = ok-done m (le-trans l h) q
-  lower l (ok-broke h s) = ok-broke (le-trans l h) s
+  lower l (ok-broke h s b) = ok-broke (le-trans l h) s b
   lower l (ok-out h n s) = ok-out (le-trans l h) n s
   lower l (ok-observe h s k) = ok-observe (le-trans l h) s k
 
   pub relax : {A : Type 0} {N : ℕ} {Q R : A → State → List ℕ → Type 0} {low : ℕ} {t : Trace A}
       → ((a : A) (σ : State) (m : List ℕ) → Q a σ m → R a σ m) → Ok N Q low t → Ok N R low t
   relax k (ok-done {a = a} {σ = σ} m h q) = ok-done m h (k a σ m q)
-  relax k (ok-broke h s) = ok-broke h s
+  relax k (ok-broke h s b) = ok-broke h s b
   relax k (ok-out h n s) = ok-out h n s
   relax k (ok-observe h s o) = ok-observe h s (relax k o)
 
@@ -184,6 +220,6 @@ module _ (M : Map) (sound : Sound M) (s₀ : machine.State) where
       → Ok N Q low t → ((a : A) (σ : State) (m : List ℕ) → low ≤ σ .steps → Q a σ m → Ok N R (σ .steps) (g a σ)) → Ok N R low (bind t g)
   unfolding bind
   follow (ok-done {a = a} {σ = σ} m h q) k = lower h (k a σ m h q)
-  follow (ok-broke h s) k = ok-broke h s
+  follow (ok-broke h s b) k = ok-broke h s b
   follow (ok-out h n s) k = ok-out h n s
   follow (ok-observe h s o) k = ok-observe h s (follow o (λ a σ m l q. k a σ m (le-trans h l) q))

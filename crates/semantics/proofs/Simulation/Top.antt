@@ -1,7 +1,7 @@
 -- Demand 3 for every program that stands in a memory map: it agrees with its meaning under every list of runs.
 use Prim.Native.Nat.{ℕ, suc, _≤_, _<_}
-use mathlib.Core.Path.{_≡_, refl, ap, subst, _∙_}
-use mathlib.Core.Bool.{false}
+use mathlib.Core.Path.{_≡_, refl, sym, ap, subst, _∙_}
+use mathlib.Core.Bool.{true, false}
 use mathlib.Core.List.{List, List·Memᴰ}
 use native.Mathlib.Nat.{le-refl}
 use native.Mathlib.Omega.{arith}
@@ -13,17 +13,19 @@ use Rattle.runs.specs.Steps.{Steps}
 use Rattle.runs.specs.Runs.{Total, Comes}
 use Rattle.runs.proofs.Lists as runs
 use Rattle.tree.specs.Tree.{CellId}
-use Rattle.layout.specs.Map.{Role, initial, mapOf, imageOf, Home, mapAt}
+use Rattle.layout.specs.Words.{after, mainWords}
+use Rattle.layout.specs.Map.{Role, initial, savedRole, finished, mapOf, imageOf, Home, mapAt}
+use Rattle.layout.specs.Addresses.{savedWord}
 use Rattle.compilation.specs.Compile.{Compiled}
 use Rattle.semantics.specs.Trace.{State, Trace}
 use Rattle.semantics.specs.Meaning.{meaning}
 use Rattle.tree.specs.Variables.{variablesOf}
-use Rattle.semantics.specs.Agreement.{Loaded, Holds, Shows, Observes, Ends, Breaks, RunsOut, Rising, Meets, AllMade, HaltsAfter, ListEnds, Agrees}
+use Rattle.semantics.specs.Agreement.{Loaded, Holds, Shows, Observes, Ends, Breaks, RunsOut, Rising, Meets, AllMade, HaltsAfter, stopAt, StopsAfter, ListEnds, Inside, Agrees}
 use Rattle.parsing_laws.specs.WellFormed.{WellFormed}
 use Rattle.memory_map.specs.Laid.{LaidProgram}
 use Rattle.memory_map.specs.KnownProcedures.{knownOf}
-use Rattle.semantics.proofs.Simulation.Relate.{Pending, Links, Serves, machineOf, At, peek, Stands, stands, ok-done, ok-broke, ok-out, ok-observe}
-use Rattle.semantics.proofs.Simulation.Instructions.{do-halt}
+use Rattle.semantics.proofs.Simulation.Relate.{Pending, Links, Serves, machineOf, At, peek, Stands, stands, Stopping, Left, ok-done, ok-broke, ok-out, ok-observe}
+use Rattle.semantics.proofs.Simulation.Instructions.{do-halt, do-stop}
 use Rattle.semantics.proofs.Simulation.Parts.{Follows}
 use Rattle.semantics.proofs.Simulation.Statements.{sim-outermost}
 use Rattle.semantics.proofs.Simulation.Procedures.{obeys-all}
@@ -48,7 +50,8 @@ outcome (Trace.observe m t) = more (outcome t)
 
 module _ (c : Compiled) (is : c .image ≡ imageOf (c .program)) (well : WellFormed (c .program))
     (laid : LaidProgram (mapAt (c .program)) (knownOf (c .program .declarations)) (c .program .main) (c .entry))
-    (homes : (i : CellId) → List·Memᴰ i (variablesOf (c .program)) → Home (c .program) i)
+    (homes : (i : CellId) → List·Memᴰ i (variablesOf (c .program)) → Home (c .program) i) (saved-at : mapAt (c .program) savedWord ≡ savedRole (c .program .checked))
+    (at-end : after (mainWords (c .program .main) (c .entry)) (c .entry) ≡ finished (c .program) .next)
     (σ : State) (s : machine.State) (loaded : Loaded c σ s) where
   -- ---- The meaning is followed
 
@@ -75,8 +78,10 @@ module _ (c : Compiled) (is : c .image ≡ imageOf (c .program)) (well : WellFor
       serve : (k : ℕ) (w : Role) → getD (c .image) k 0 ≡ initial w → Holds σ w (getD (c .image) k 0) (getD (s .image) k 0)
           → Serves idle (σ .cells) w (getD (s .image) k 0)
       serve k (Role.fixed w) e h = h ∙ e
+      serve k Role.stop e h = h ∙ e
       serve k (Role.cell i v) e h = h
       serve k (Role.link q) e h = let z : getD (s .image) k 0 ≡ 0 = h ∙ e in (omega arith, tt)
+      serve k Role.saved e h = tt
       serve k Role.free e h = tt
 
   abbrev Followed : ℕ → ℕ → Trace (Unit {0}) → Type 0
@@ -98,7 +103,7 @@ module _ (c : Compiled) (is : c .image ≡ imageOf (c .program)) (well : WellFor
   module _ {N : ℕ} where
     rising-of : {low : ℕ} {t : Trace (Unit {0})} → Followed N low t → Rising low t
     rising-of (ok-done m l q) = l
-    rising-of (ok-broke l h) = l
+    rising-of (ok-broke l h b) = l
     rising-of (ok-out l n h) = l
     rising-of (ok-observe l h k) = (l, rising-of k)
 
@@ -106,8 +111,8 @@ module _ (c : Compiled) (is : c .image ≡ imageOf (c .program)) (well : WellFor
     observed-of (ok-observe l h k) Observes.here = h
     observed-of (ok-observe l h k) (Observes.later o) = observed-of k o
 
-    broken-of : {low : ℕ} {t : Trace (Unit {0})} {τ : State} → Followed N low t → Breaks τ t → Standing τ
-    broken-of (ok-broke l h) Breaks.here = h
+    broken-of : {low : ℕ} {t : Trace (Unit {0})} {τ : State} → Followed N low t → Breaks τ t → Standing τ × Left (mapAt (c .program)) (laid .sound) s τ
+    broken-of (ok-broke l h b) Breaks.here = (h, b)
     broken-of (ok-observe l h k) (Breaks.later o) = broken-of k o
 
     out-of : {low : ℕ} {t : Trace (Unit {0})} {τ : State} → Followed N low t → RunsOut τ t → (N ≤ τ .steps) × Standing τ
@@ -119,6 +124,9 @@ module _ (c : Compiled) (is : c .image ≡ imageOf (c .program)) (well : WellFor
     end-of (ok-observe l h k) (Ends.later e) = end-of k e
 
   -- ---- What lists of runs show
+
+  last-word : suc (laid .last) ≡ finished (c .program) .next
+  last-word = laid .end ∙ at-end
 
   shows : {κ : Links} {p : ℕ} {τ : State} {m : List ℕ} → At (mapAt (c .program)) (laid .sound) s κ p τ m
       → (n : Machine) → n .registers ≡ τ .registers → Shows (c .program) τ (machine.state n m)
@@ -140,32 +148,79 @@ module _ (c : Compiled) (is : c .image ≡ imageOf (c .program)) (well : WellFor
   halts-at : (f : ℕ) (τ : State) → Ends τ (meaning f (c .program) σ) → (t : Total) → Comes s t → τ .steps < t .granted → HaltsAfter (c .program) τ t
   halts-at f τ e t (Comes.list qs) l =
       let x = end-of (followed f) e in
-      let r = runs.halts qs (x .1 .made) refl (do-halt (mapAt (c .program)) (laid .sound) s (x .1) (laid .stop)) refl l in
+      let r = runs.halts qs (x .1 .made) refl (do-halt (mapAt (c .program)) (laid .sound) s (x .1) (laid .halt)) refl l in
       record {
         halted = ap (λ (u : machine.State). u .machine .halted) (r .0);
         steps = r .1;
+        place = ap (λ (u : machine.State). u .machine .p) (r .0) ∙ last-word;
         shows = rw (r .0) (shows (x .1) (machine.stopped (machineOf τ (suc (laid .last)))) refl);
       }
 
-  ends-of : ((f : ℕ) (τ : State) → Breaks τ (meaning f (c .program) σ) → ⊥) → (t : Total) → Comes s t → ListEnds (c .program) σ t
-  ends-of whole t k = pick (outcome (meaning (t .granted) (c .program) σ))
+  -- where the array's subscripts are tested: to the test's HLT, and with it
+  stops-at : (τ : State) → Stopping (mapAt (c .program)) (laid .sound) s τ → (t : Total) → Comes s t → stopAt τ ≤ t .granted → StopsAfter (c .program) τ t
+  stops-at τ h t (Comes.list qs) l =
+      let enough : h .now .steps < t .granted = omega (arith, h .steps) in
+      let e = runs.halts qs (h .at .made) refl (do-stop (mapAt (c .program)) (laid .sound) s (h .at) (h .stop)) refl enough in
+      record {
+        steps = e .1 ∙ h .steps;
+        halted = ap (λ (u : machine.State). u .machine .halted) (e .0);
+        place = record { test = h .p; below = omega (arith, h .stop .below); is = h .stop .here; behind = ap (λ (u : machine.State). u .machine .p) (e .0) };
+        cells = λ k i v b here.
+            ap (λ (u : machine.State). getD (u .image) k 0) (e .0)
+            ∙ peek (mapAt (c .program)) (laid .sound) s (h .at) k (Role.cell i v) b here ∙ ap (λ (cells : CellId → ℕ). cells i) (h .cells);
+        saved = ap (λ (u : machine.State). getD (u .image) savedWord 0) (e .0) ∙ h .saved;
+        registers = ap (λ (u : machine.State). u .machine .registers) (e .0) ∙ h .registers;
+      }
+
+  -- short of that HLT every step is made
+  until-stop : (τ : State) → Stopping (mapAt (c .program)) (laid .sound) s τ → (t : Total) → Comes s t → t .granted < stopAt τ → AllMade t
+  until-stop τ h t k l = all-made (h .now) (stands (mapAt (c .program)) (laid .sound) s (h .at)) t k (omega (arith, h .steps))
+
+  -- a program whose subscripts are tested comes to a test's HLT wherever its meaning breaks off
+  stopping : c .program .checked ≡ true → {τ : State} → Left (mapAt (c .program)) (laid .sound) s τ → Stopping (mapAt (c .program)) (laid .sound) s τ
+  unfolding savedRole
+  stopping e (Left.tested h) = h
+  stopping e (Left.untested free) =
+      let z : Role.saved ≡ Role.free = sym (saved-at ∙ ap savedRole e) ∙ free in
+      let y : _≡_ {A = ℕ} 0 1 = cc in
+      absurd (omega arith)
+
+  ends-of : Inside (c .program) σ → (t : Total) → Comes s t → ListEnds (c .program) σ t
+  ends-of inside t k = pick (outcome (meaning (t .granted) (c .program) σ))
     where
+      stop-of : (f : ℕ) (υ : State) → Breaks υ (meaning f (c .program) σ) → Stopping (mapAt (c .program)) (laid .sound) s υ
+      stop-of f υ b = stopping (inside f υ b) (broken-of (followed f) b .1)
+
+      halted-not : t .state .machine .halted ≡ true → t .state .machine .halted ≡ false → ⊥
+      halted-not x y = let z : _≡_ {A = ℕ} 0 1 = cc in omega arith
+
       late : (f : ℕ) (υ : State) → Ends υ (meaning f (c .program) σ) → t .state .machine .halted ≡ false → Dec (υ .steps < t .granted) → t .granted ≤ υ .steps
-      late f υ e running (yes b) =
-          let x = halts-at f υ e t k b .halted in
-          absurd (let z : _≡_ {A = ℕ} 0 1 = cc in omega arith)
+      late f υ e running (yes b) = absurd (halted-not (halts-at f υ e t k b .halted) running)
       late f υ e running (no n) = omega arith
 
+      early : (f : ℕ) (υ : State) → Breaks υ (meaning f (c .program) σ) → t .state .machine .halted ≡ false → Dec (t .granted < stopAt υ) → t .granted < stopAt υ
+      early f υ b running (yes l) = l
+      early f υ b running (no n) = absurd (halted-not (stops-at υ (stop-of f υ b) t k (omega arith) .halted) running)
+
+      on : AllMade t → ListEnds (c .program) σ t
+      on all =
+          ListEnds.goes-on (λ f υ e. late f υ e (all .running) (decLt (υ .steps) (t .granted)))
+          (λ f υ b. early f υ b (all .running) (decLt (t .granted) (stopAt υ))) all
+
       goes : (τ : State) → Standing τ → t .granted ≤ τ .steps → ListEnds (c .program) σ t
-      goes τ h l = let r = all-made τ h t k l in ListEnds.goes-on (λ f υ e. late f υ e (r .running) (decLt (υ .steps) (t .granted))) r
+      goes τ h l = on (all-made τ h t k l)
 
       ended-at : (τ : State) → Ends τ (meaning (t .granted) (c .program) σ) → Dec (τ .steps < t .granted) → ListEnds (c .program) σ t
       ended-at τ e (yes l) = ListEnds.halts (t .granted) τ e l (halts-at (t .granted) τ e t k l)
       ended-at τ e (no n) = goes τ (stands (mapAt (c .program)) (laid .sound) s (end-of (followed (t .granted)) e .1)) (omega arith)
 
+      broke-at : (τ : State) → Breaks τ (meaning (t .granted) (c .program) σ) → Dec (t .granted < stopAt τ) → ListEnds (c .program) σ t
+      broke-at τ b (yes l) = on (until-stop τ (stop-of (t .granted) τ b) t k l)
+      broke-at τ b (no n) = let l : stopAt τ ≤ t .granted = omega arith in ListEnds.stops (t .granted) τ b l (stops-at τ (stop-of (t .granted) τ b) t k l)
+
       pick : Outcome (meaning (t .granted) (c .program) σ) → ListEnds (c .program) σ t
       pick (ends τ e) = ended-at τ e (decLt (τ .steps) (t .granted))
-      pick (breaks τ e) = absurd (whole (t .granted) τ e)
+      pick (breaks τ b) = broke-at τ b (decLt (t .granted) (stopAt τ))
       pick (runs-out τ e) = let x = out-of (followed (t .granted)) e in goes τ (x .1) (x .0)
 
   result : Agrees (c .program) σ (Comes s)
@@ -175,13 +230,16 @@ module _ (c : Compiled) (is : c .image ≡ imageOf (c .program)) (well : WellFor
     rising = λ f. subst (λ (n : ℕ). Rising n (meaning f (c .program) σ)) (loaded .start .begins) (rising-of (followed f));
     homes = homes;
     observed = λ f τ o. meets τ (observed-of (followed f) o);
-    broken = λ f τ b. meets τ (broken-of (followed f) b);
-    until-broken = λ f τ b. all-made τ (broken-of (followed f) b);
+    broken = λ f τ b. meets τ (broken-of (followed f) b .0);
+    until-broken = λ f τ b. all-made τ (broken-of (followed f) b .0);
+    halts = halts-at;
+    stops = λ e f τ b. stops-at τ (stopping e (broken-of (followed f) b .1));
     ends = ends-of;
   }
 
 pub agrees : (c : Compiled) → c .image ≡ imageOf (c .program) → WellFormed (c .program)
     → LaidProgram (mapAt (c .program)) (knownOf (c .program .declarations)) (c .program .main) (c .entry)
-    → ((i : CellId) → List·Memᴰ i (variablesOf (c .program)) → Home (c .program) i)
+    → ((i : CellId) → List·Memᴰ i (variablesOf (c .program)) → Home (c .program) i) → mapAt (c .program) savedWord ≡ savedRole (c .program .checked)
+    → after (mainWords (c .program .main) (c .entry)) (c .entry) ≡ finished (c .program) .next
     → (σ : State) (s : machine.State) → Loaded c σ s → Agrees (c .program) σ (Comes s)
-agrees c is well laid homes σ s loaded = result c is well laid homes σ s loaded
+agrees c is well laid homes saved-at at-end σ s loaded = result c is well laid homes saved-at at-end σ s loaded

@@ -42,19 +42,23 @@ returns-3 c = rw (c .before .symbol3 .given .1)
 
 returns-4 : tie.Need-returns-4
 unfolding treeSymbol dataOf
-returns-4 c = rw (c .before .symbol4 .given .1)
+returns-4 c = rw (c .before .before .symbol4 .given .1, c .if1 .taken)
 
 returns-5 : tie.Need-returns-5
 unfolding treeSymbol dataOf
-returns-5 c = rw (c .before .before .symbol5 .given .1, c .if1 .taken)
+returns-5 c = rw (c .before .before .symbol4 .given .1, c .if1 .left)
 
 returns-6 : tie.Need-returns-6
 unfolding treeSymbol dataOf
-returns-6 c = rw (c .before .before .symbol5 .given .1, c .if1 .left)
+returns-6 c = rw (c .before .before .symbol5 .given .1, c .if2 .taken)
 
 returns-7 : tie.Need-returns-7
 unfolding treeSymbol dataOf
-returns-7 c = rw (c .enum-told .given .1)
+returns-7 c = rw (c .before .before .symbol5 .given .1, c .if2 .left)
+
+returns-8 : tie.Need-returns-8
+unfolding treeSymbol dataOf
+returns-8 c = rw (c .enum-told .given .1)
 
 pub data-of-spec : {M : Type 1} → statement M
 data-of-spec =
@@ -74,4 +78,5 @@ data-of-spec =
     returns-4
     returns-5
     returns-6
-    returns-7)
+    returns-7
+    returns-8)

@@ -23,7 +23,7 @@ same-length : tie.Need-same-length
 same-length c = search needs
 
 returns : tie.Need-returns
-returns c = fails (array-head _ _ _ (failed-as (c .before .before .array-head .ensures) (c .enum-told .given .1))) (c .enum-told .given .1) tt
+returns c = fails (array-head _ _ _ _ (failed-as (c .before .before .array-head .ensures) (c .enum-told .given .1))) (c .enum-told .given .1) tt
 
 add-store-global : tie.Need-add-store-global
 add-store-global c =
@@ -74,7 +74,7 @@ returns-2 c =
     let at-part = at-initials .before .before .before .before .before .before .before .before .before in
     let at-array-head = at-part .before .before in
     let head = gives-read (at-array-head .array-head .ensures) (at-part .part .given .1) in
-    fails (array-values _ _ _ head (failed-as (at-initials .initials .ensures) (c .enum-told3 .given .1))) (c .enum-told3 .given .1) tt
+    fails (array-values _ _ _ _ head (failed-as (at-initials .initials .ensures) (c .enum-told3 .given .1))) (c .enum-told3 .given .1) tt
 
 declare-global-requires : tie.Need-declare-global-requires
 declare-global-requires c κs =
@@ -103,8 +103,8 @@ returns-3 c =
     let h = entry .pre .0 in
     let r = came (at-initials .initials .ensures) (at-enum-told2 .enum-told2 .given .1) in
     let held = held-length (entry .args .allocation .names) (entry .args .table .now) (let l = entry .pre .1 in omega (arith, h .few, l)) in
-    read (array-on _ _ _ head (r .is)) (at-enum-told2 .enum-told2 .given .1)
-    (rw (at-declare-global .declare-global .ensures .1) (array-declared _ _ _ _ _ _ _ _ _ h (entry .pre .1) room held (at-declare-global .declare-global .kept .0) (at-declare-global .declare-global .ensures .0) (at-store-global .store-global .ensures) (r .holds)))
+    read (array-on _ _ _ _ head (r .is)) (at-enum-told2 .enum-told2 .given .1)
+    (rw (at-declare-global .declare-global .ensures .1) (array-declared _ _ _ _ _ _ _ _ _ _ h (entry .pre .1) room held (at-declare-global .declare-global .kept .0) (at-declare-global .declare-global .ensures .0) (at-store-global .store-global .ensures) (r .holds)))
 
 pub array-spec : {M : Type 1} → statement M
 array-spec =

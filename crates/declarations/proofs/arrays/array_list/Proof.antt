@@ -15,12 +15,12 @@ use Rattle.declarations.proofs.arrays.array_list.Statement.{statement}
 use Rattle.declarations.proofs.arrays.array_list.Tie as tie
 
 abbrev Inv-loop : tie.InvT-loop
-Inv-loop source table₀ image₀ at current₀ from₀ left₀ table image current from left =
-    Listing source Kinds.comma (arrayIn source (allocationOf current₀ table₀)) (separated source Kinds.comma (arrayIn source (allocationOf current₀ table₀) []) (arrayIn source (allocationOf current₀ table₀)) at) (DeclaredAnyPlan current₀ table₀ image₀ current table image) from left
+Inv-loop source table₀ image₀ checked at current₀ from₀ left₀ table image current from left =
+    Listing source Kinds.comma (arrayIn source checked (allocationOf current₀ table₀)) (separated source Kinds.comma (arrayIn source checked (allocationOf current₀ table₀) []) (arrayIn source checked (allocationOf current₀ table₀)) at) (DeclaredAnyPlan current₀ table₀ image₀ current table image) from left
     × (length table ≡ length table₀) × (length image ≡ length image₀)
 
 abbrev μ-loop : tie.MeasureT-loop
-μ-loop source table₀ image₀ at current₀ from₀ left₀ table image current from left = left
+μ-loop source table₀ image₀ checked at current₀ from₀ left₀ table image current from left = left
 
 loop-holds : tie.Need-loop-holds Inv-loop μ-loop
 loop-holds c = (list-first _ _ _ [] _ (λ ends. none-declared ends _ _ _ (c .before .before .before .pre .0)), refl, refl)
@@ -50,7 +50,7 @@ returns : tie.Need-returns Inv-loop μ-loop
 returns c =
     let at-array = c .before .before .before .before .before .before in
     let l = at-array .before .before .before .loop .inv in
-    list-failed (l .0) (array-next _ _ (l .0 .holds) (at-array .array .ensures)) (c .enum-told .given .1)
+    list-failed (l .0) (array-next _ _ _ (l .0 .holds) (at-array .array .ensures)) (c .enum-told .given .1)
 
 token-at-requires : tie.Need-token-at-requires Inv-loop μ-loop
 token-at-requires c κs = search needs
@@ -72,7 +72,7 @@ returns-2 c =
     let at-part = c .before .before .before in
     let at-array = at-part .before .before .before .before .before .before in
     let l = at-array .before .before .before .loop .inv in
-    list-zero (l .0) (array-next _ _ (l .0 .holds) (at-array .array .ensures)) (at-part .part .given .1) (c .if1 .taken)
+    list-zero (l .0) (array-next _ _ _ (l .0 .holds) (at-array .array .ensures)) (at-part .part .given .1) (c .if1 .taken)
 
 same-length-5 : tie.Need-same-length-5 Inv-loop μ-loop
 same-length-5 c =
@@ -92,7 +92,7 @@ returns-3 c =
     let at-part = at-token-at .before .before in
     let at-array = at-part .before .before .before .before .before .before in
     let l = at-array .before .before .before .loop .inv in
-    list-last (l .0) (array-next _ _ (l .0 .holds) (at-array .array .ensures)) (at-part .part .given .1) (at-token-at .token-at .ensures) (c .if2 .taken)
+    list-last (l .0) (array-next _ _ _ (l .0 .holds) (at-array .array .ensures)) (at-part .part .given .1) (at-token-at .token-at .ensures) (c .if2 .taken)
 
 sub-left : tie.Need-sub-left Inv-loop μ-loop
 sub-left c = search needs
@@ -107,7 +107,7 @@ loop-again c =
     let at-part = at-token-at .before .before in
     let at-array = at-part .before .before .before .before .before .before in
     let l = at-array .before .before .before .loop .inv in
-    (list-next (l .0) (array-next _ _ (l .0 .holds) (at-array .array .ensures)) (at-part .part .given .1) (at-token-at .token-at .ensures) (at-if1 .if1 .left) (c .before .if2 .left), at-array .array .kept .1 .0 ∙ l .1, at-array .array .kept .1 .1 .0 ∙ l .2)
+    (list-next (l .0) (array-next _ _ _ (l .0 .holds) (at-array .array .ensures)) (at-part .part .given .1) (at-token-at .token-at .ensures) (at-if1 .if1 .left) (c .before .if2 .left), at-array .array .kept .1 .0 ∙ l .1, at-array .array .kept .1 .1 .0 ∙ l .2)
 
 pub array-list-spec : {M : Type 1} → statement M
 array-list-spec =

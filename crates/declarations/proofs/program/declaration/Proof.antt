@@ -32,7 +32,7 @@ returns c =
     let at-found = at-global-items .before .before .before .before in
     let at-item-keyword = at-found .before .before in
     let entry = at-item-keyword .before .before .before .before in
-    reads-to (in-items _ _ _ _ (rw (at-found .found .given .1) at (at-item-keyword .item-keyword .ensures))) (λ _ d. d (endOf (entry .args .plan))) (λ w. w) (at-global-items .global-items .ensures)
+    reads-to (in-items _ _ _ _ _ (rw (at-found .found .given .1) at (at-item-keyword .item-keyword .ensures))) (λ _ d. d (endOf (entry .args .plan))) (λ w. w) (at-global-items .global-items .ensures)
 
 enum-told : tie.Need-enum-told
 enum-told c = search needs
@@ -53,7 +53,7 @@ returns-2 c =
     let at-arrays = c .before .before .before .before in
     let at-if1 = at-arrays .before .before .before in
     let entry = at-if1 .before .before .before .before .before .before .before in
-    reads-to (in-array _ _ _ (at-if1 .if1 .taken)) (λ _ d. d (endOf (entry .args .plan))) (λ w. w) (at-arrays .arrays .ensures)
+    reads-to (in-array _ _ _ _ (at-if1 .if1 .taken)) (λ _ d. d (endOf (entry .args .plan))) (λ w. w) (at-arrays .arrays .ensures)
 
 next-sector-requires : tie.Need-next-sector-requires
 next-sector-requires c κs =
@@ -68,7 +68,7 @@ returns-3 c =
     let at-next-sector = c .before .before in
     let at-if2 = at-next-sector .before .before in
     let entry = at-if2 .before .before .before .before .before .before .before .before in
-    reads-to (in-sector _ _ (entry .args .t) (at-if2 .if2 .taken) ∙ next-any _ (entry .args .allocation) _ _) (λ _ d. d .at (entry .args .table .now) (endOf (entry .args .plan))) (λ w. w) (at-next-sector .next-sector .ensures)
+    reads-to (in-sector _ _ _ (entry .args .t) (at-if2 .if2 .taken) ∙ next-any _ (entry .args .allocation) _ _) (λ _ d. d .at (entry .args .table .now) (endOf (entry .args .plan))) (λ w. w) (at-next-sector .next-sector .ensures)
 
 procedure-requires : tie.Need-procedure-requires
 procedure-requires c κs =
@@ -85,7 +85,7 @@ returns-4 : tie.Need-returns-4
 returns-4 c =
     let at-procedure = c .before .before .before .before in
     let at-if3 = at-procedure .before .before .before in
-    reads-on (in-procedure _ _ _ (at-if3 .if3 .taken)) (at-procedure .procedure .ensures)
+    reads-on (in-procedure _ _ _ _ (at-if3 .if3 .taken)) (at-procedure .procedure .ensures)
 
 accumulator-requires : tie.Need-accumulator-requires
 accumulator-requires c κs =
@@ -107,7 +107,7 @@ returns-5 c =
     let at-if1 = at-if2 .before in
     let at-enum-told = at-if1 .before in
     let at-item-keyword = at-enum-told .before .before in
-    reads-on (in-accumulator _ _ _ (rw (at-enum-told .enum-told .given .1) at (at-item-keyword .item-keyword .ensures)) (at-if1 .if1 .left) (at-if2 .if2 .left) (at-if3 .if3 .left)) (at-accumulator .accumulator .ensures)
+    reads-on (in-accumulator _ _ _ _ (rw (at-enum-told .enum-told .given .1) at (at-item-keyword .item-keyword .ensures)) (at-if1 .if1 .left) (at-if2 .if2 .left) (at-if3 .if3 .left)) (at-accumulator .accumulator .ensures)
 
 pub declaration-spec : {M : Type 1} → statement M
 declaration-spec =

@@ -13,15 +13,15 @@ use Rattle.declarations.proofs.program.declarations.Statement.{statemen
 use Rattle.declarations.proofs.program.declarations.Tie as tie
 
 abbrev Inv-loop : tie.InvT-loop
-Inv-loop source table₀ image₀ plan at current₀ from₀ left₀ table image current from left =
-    Turning (declarationMore source) (parseDeclarations source at) (Declared (endOf plan) current₀ table₀ image₀ current table image) from left
+Inv-loop source table₀ image₀ plan checked at current₀ from₀ left₀ table image current from left =
+    Turning (declarationMore source checked) (parseDeclarations source checked at) (Declared (endOf plan) current₀ table₀ image₀ current table image) from left
     × (length table ≡ length table₀) × (length image ≡ length image₀)
 
 abbrev μ-loop : tie.MeasureT-loop
-μ-loop source table₀ image₀ plan at current₀ from₀ left₀ table image current from left = left
+μ-loop source table₀ image₀ plan checked at current₀ from₀ left₀ table image current from left = left
 
 loop-holds : tie.Need-loop-holds Inv-loop μ-loop
-loop-holds c = (declarations-first _ _ (none-declared _ _ _ _ (c .before .before .before .pre .0 .sound)), refl, refl)
+loop-holds c = (declarations-first _ _ _ (none-declared _ _ _ _ (c .before .before .before .pre .0 .sound)), refl, refl)
 
 token-at-requires : tie.Need-token-at-requires Inv-loop μ-loop
 token-at-requires c κs = search needs
@@ -45,7 +45,7 @@ same-length-4 : tie.Need-same-length-4 Inv-loop μ-loop
 same-length-4 c = c .before .before .before .before .loop .inv .2
 
 returns-2 : tie.Need-returns-2 Inv-loop μ-loop
-returns-2 c = turn-none (c .before .before .before .before .loop .inv .0) (declaration-none _ _ _ (c .before .before .before .token-at .ensures) (sym (c .before .begins .ensures) ∙ not-true _ (c .if2 .taken)))
+returns-2 c = turn-none (c .before .before .before .before .loop .inv .0) (declaration-none _ _ _ _ (c .before .before .before .token-at .ensures) (sym (c .before .begins .ensures) ∙ not-true _ (c .if2 .taken)))
 
 declaration-requires : tie.Need-declaration-requires Inv-loop μ-loop
 declaration-requires c κs =
@@ -81,7 +81,7 @@ returns-3 c =
     let at-token-at = at-if1 .before in
     let entry = at-token-at .before .before .before .before .before in
     let l = at-token-at .before .loop .inv in
-    turn-failed (l .0) (at-if1 .if1 .left) (declaration-some _ _ _ (at-token-at .token-at .ensures) (sym (at-begins .begins .ensures) ∙ not-false _ (at-if2 .if2 .left))) (declaration-next _ _ (entry .pre .0 .allocation (entry .args .table .now)) (l .0 .holds) (at-declaration .declaration .ensures)) (c .enum-told .given .1)
+    turn-failed (l .0) (at-if1 .if1 .left) (declaration-some _ _ _ _ (at-token-at .token-at .ensures) (sym (at-begins .begins .ensures) ∙ not-false _ (at-if2 .if2 .left))) (declaration-next _ _ _ (entry .pre .0 .allocation (entry .args .table .now)) (l .0 .holds) (at-declaration .declaration .ensures)) (c .enum-told .given .1)
 
 sub-left : tie.Need-sub-left Inv-loop μ-loop
 sub-left c = search needs
@@ -99,7 +99,7 @@ loop-again c =
     let at-token-at = at-if1 .before in
     let entry = at-token-at .before .before .before .before .before in
     let l = at-token-at .before .loop .inv in
-    (turn-next (l .0) (at-if1 .if1 .left) (declaration-some _ _ _ (at-token-at .token-at .ensures) (sym (at-begins .begins .ensures) ∙ not-false _ (at-if2 .if2 .left))) (declaration-next _ _ (entry .pre .0 .allocation (entry .args .table .now)) (l .0 .holds) (at-declaration .declaration .ensures)) (at-part .part .given .1), at-declaration .declaration .kept .1 .0 ∙ l .1, at-declaration .declaration .kept .1 .1 .0 ∙ l .2)
+    (turn-next (l .0) (at-if1 .if1 .left) (declaration-some _ _ _ _ (at-token-at .token-at .ensures) (sym (at-begins .begins .ensures) ∙ not-false _ (at-if2 .if2 .left))) (declaration-next _ _ _ (entry .pre .0 .allocation (entry .args .table .now)) (l .0 .holds) (at-declaration .declaration .ensures)) (at-part .part .given .1), at-declaration .declaration .kept .1 .0 ∙ l .1, at-declaration .declaration .kept .1 .1 .0 ∙ l .2)
 
 pub declarations-spec : {M : Type 1} → statement M
 declarations-spec =

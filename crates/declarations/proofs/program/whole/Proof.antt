@@ -3,9 +3,8 @@ use native.Mathlib.Omega.{arith}
 use Rattle.parser.specs.Reads.Reads.{fails}
 use mathlib.Core.List.{foldl}
 use Rattle.layout.specs.Allocation.{allocate, allocated}
-use Rattle.parser.proofs.Answers.{part-failed}
 use Rattle.parser.proofs.ReadLaws.{came, failed-as, reads-as}
-use Rattle.declarations.proofs.ParseLaws.{expected}
+use Rattle.declarations.proofs.ParseLaws.{gives-read}
 use Rattle.declarations.proofs.ProgramLaws.{program-begin, program-declarations, program-main, program-compiled}
 use borrow.Author.Needs.{needs}
 use Rattle.declarations.proofs.program.whole.Statement.{statement}
@@ -14,8 +13,8 @@ use Rattle.declarations.proofs.program.whole.Tie as tie
 start-allocation-requires : tie.Need-start-allocation-requires
 start-allocation-requires c κs = search needs
 
-expect-requires : tie.Need-expect-requires
-expect-requires c κs = search needs
+opening-requires : tie.Need-opening-requires
+opening-requires c κs = search needs
 
 enum-known-part : tie.Need-enum-known-part
 enum-known-part c = search needs
@@ -24,7 +23,7 @@ enum-told : tie.Need-enum-told
 enum-told c = search needs
 
 returns : tie.Need-returns
-returns c = fails (program-begin _ (part-failed _ (c .before .before .expect .ensures) (c .enum-told .given .1))) (c .enum-told .given .1) tt
+returns c = fails (program-begin _ (failed-as (c .before .before .opening .ensures) (c .enum-told .given .1))) (c .enum-told .given .1) tt
 
 declarations-requires : tie.Need-declarations-requires
 declarations-requires c κs =
@@ -48,8 +47,8 @@ returns-2 : tie.Need-returns-2
 returns-2 c =
     let at-declarations = c .before .before .before .before .before .before .before in
     let at-part = at-declarations .before .before .before .before in
-    let at-expect = at-part .before .before in
-    fails (program-declarations _ (expected _ _ _ (at-expect .expect .ensures) (at-part .part .given .1)) (failed-as (at-declarations .declarations .ensures) (c .enum-told2 .given .1))) (c .enum-told2 .given .1) tt
+    let at-opening = at-part .before .before in
+    fails (program-declarations _ (gives-read (at-opening .opening .ensures) (at-part .part .given .1)) (failed-as (at-declarations .declarations .ensures) (c .enum-told2 .given .1))) (c .enum-told2 .given .1) tt
 
 main-body-requires : tie.Need-main-body-requires
 main-body-requires c κs =
@@ -79,14 +78,14 @@ returns-3 c =
     let at-part2 = at-main-body .before .before .before .before in
     let at-declarations = at-part2 .before .before .before .before .before .before .before in
     let at-part = at-declarations .before .before .before .before in
-    let at-expect = at-part .before .before in
-    let at-start-allocation = at-expect .before .before in
+    let at-opening = at-part .before .before in
+    let at-start-allocation = at-opening .before .before in
     let entry = at-start-allocation .before .before .before .before in
     let r = came (at-declarations .declarations .ensures) (at-part2 .part2 .given .1) in
     let starts = at-start-allocation .start-allocation .ensures .allocation (entry .args .table .now) in
     let allocation = r .holds .allocation ∙ ap (λ x. foldl allocate x (r .tree)) starts in
-    reads-as (λ main. record { declarations = r .tree; main = main }) (at-main-body .main-body .ensures) refl
-    (program-main _ (expected _ _ _ (at-expect .expect .ensures) (at-part .part .given .1)) (r .is) allocation)
+    reads-as (λ main. record { checked = at-opening .opening .result .checked; declarations = r .tree; main = main }) (at-main-body .main-body .ensures) refl
+    (program-main _ (gives-read (at-opening .opening .ensures) (at-part .part .given .1)) (r .is) allocation)
     (λ main d. program-compiled starts (r .holds) d) (λ w. w)
 
 pub whole-spec : {M : Type 1} → statement M
@@ -94,7 +93,7 @@ whole-spec =
     tie.close
     (tie.spec
     start-allocation-requires
-    expect-requires
+    opening-requires
     enum-known-part
     enum-told
     returns

@@ -9,10 +9,10 @@ use Rattle.source.proofs.keyword.keyword_kind.Statement.{statement}
 use Rattle.source.proofs.keyword.keyword_kind.Tie as tie
 
 abbrev Inv-loop : tie.InvT-loop
-Inv-loop keyword letters starts k₀ k = (k ≤ 53) × (keywordKind keyword ≡ kindFrom keyword k)
+Inv-loop keyword letters starts k₀ k = (k ≤ 54) × (keywordKind keyword ≡ kindFrom keyword k)
 
 abbrev μ-loop : tie.MeasureT-loop
-μ-loop keyword letters starts k₀ k = 53 - k
+μ-loop keyword letters starts k₀ k = 54 - k
 
 loop-holds : tie.Need-loop-holds Inv-loop μ-loop
 loop-holds c = (search needs, from-first _)
