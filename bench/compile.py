@@ -25,6 +25,7 @@ SOURCES = {
     "keywords at the table's end": filled(".BEGIN ", ".WHEN .NOKEY .THEN;", " .END"),
     "the oldest of 380 names": filled(".BEGIN .INTEGER QQ," + names(379) + "; ", "QQ=QQ;", " .END"),
     "the same, four sectors": filled(".BEGIN .INTEGER QQ," + names(370) + "; ", ".PROCEDURE P%; .BEGIN " + "QQ=QQ;" * 252 + " .END; .NEXTSECTOR;", ".END"),
+    "1,400 locals, 360 globals": filled(".BEGIN .INTEGER " + names(360) + "; ", ".PROCEDURE P%; .BEGIN .INTEGER " + names(100) + "; .END; .NEXTSECTOR;", ".END"),
     "brackets": filled(".BEGIN @=", "(", " .END"),
 }
 

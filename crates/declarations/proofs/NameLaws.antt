@@ -31,38 +31,33 @@ use Rattle.parser.proofs.ReadLaws.{never}
 pub held-length : (n : ℕ) (table : List ℕ) → 7 * n ≤ length table → length (liveNames n table) ≡ n
 held-length n table h = ap length (held-all n table h) ∙ entries-length n table
 
-module _ (source : List ℕ) (scope : Scope) (limit at : ℕ) {t : Token} (e : t ≡ tokenAt source at) where
-  pub failure-kind : (t .kind ≡ Kinds.name → ⊥) → 6 ≡ nameFailure source scope limit (tokenAt source at)
+module _ (scope : Scope) (limit : ℕ) (t : Token) (name : Name) where
+  pub failure-kind : (t .kind ≡ Kinds.name → ⊥) → 6 ≡ nameFailure scope limit t name
   unfolding nameFailure
-  failure-kind k = rw (← e, ne-eqb _ _ k)
+  failure-kind k = rw (ne-eqb _ _ k)
 
-  module _ (k : t .kind ≡ Kinds.name) {p : Packed} (q : p ≡ packOf (nameOf source t)) {taken : Bool} (i : taken ≡ isTaken scope (unpack p)) where
-    named : unpack p ≡ nameOf source (tokenAt source at)
-    named = ap unpack (q ∙ ap (λ x. packOf (nameOf source x)) e) ∙ name-unpacked source at (eq-eqb _ _ (ap (λ x. x .kind) (sym e) ∙ k))
-
-    is-so : isTaken scope (nameOf source (tokenAt source at)) ≡ taken
-    is-so = ap (isTaken scope) (sym named) ∙ sym i
-
-    is-name : eqb (tokenAt source at .kind) Kinds.name ≡ true
-    is-name = eq-eqb _ _ (ap (λ x. x .kind) (sym e) ∙ k)
-
-    pub failure-taken : taken ≡ true → 8 ≡ nameFailure source scope limit (tokenAt source at)
+  module _ (k : t .kind ≡ Kinds.name) {taken : Bool} (i : taken ≡ isTaken scope name) where
+    pub failure-taken : taken ≡ true → 8 ≡ nameFailure scope limit t name
     unfolding nameFailure
-    failure-taken h = rw (is-name, is-so, h)
+    failure-taken h = rw (eq-eqb _ _ k, ← i, h)
 
     module _ (h : taken ≡ false) {n : ℕ} (count : length (scope .names) ≡ n) where
-      pub failure-full : 512 ≤ n → 10 ≡ nameFailure source scope limit (tokenAt source at)
+      pub failure-full : 512 ≤ n → 10 ≡ nameFailure scope limit t name
       unfolding nameFailure
-      failure-full l = rw (is-name, is-so, h, count, le-leb _ _ l)
+      failure-full l = rw (eq-eqb _ _ k, ← i, h, count, le-leb _ _ l)
 
-      pub failure-limit : n < 512 → limit ≡ nameFailure source scope limit (tokenAt source at)
+      pub failure-limit : n < 512 → limit ≡ nameFailure scope limit t name
       unfolding nameFailure
-      failure-limit l = rw (is-name, is-so, h, count, lt-leb _ _ l)
+      failure-limit l = rw (eq-eqb _ _ k, ← i, h, count, lt-leb _ _ l)
 
 -- ---- A new name
 
 module _ (source : List ℕ) (scope : Scope) (limit : ℕ) where
-  pub new-within : (t : Token) → newName source scope limit t ≡ within (nameFailure source scope limit t) t (got (nameOf source t) (t .next))
+  -- a new name, or its failure at its token
+  abbrev judged : Token → Name → Got Name
+  judged t name = within (nameFailure scope limit t name) t (got name (t .next))
+
+  new-within : (t : Token) → newName source scope limit t ≡ judged t (nameOf source t)
   unfolding newName nameFailure within
   new-within t = go (is Kinds.name t) (isTaken scope (nameOf source t)) (leb 512 (length (scope .names)))
     where
@@ -88,24 +83,24 @@ module _ (source : List ℕ) (scope : Scope) (limit : ℕ) where
       go true = refl
       go false = refl
 
-  is-six : (t : Token) → eqb (t .kind) Kinds.name ≡ false → (x y : Got Name) → within (nameFailure source scope limit t) t x ≡ within (nameFailure source scope limit t) t y
+  -- what is no name fails with 6, whatever its characters
+  is-six : (t : Token) → eqb (t .kind) Kinds.name ≡ false → (name other : Name) → judged t name ≡ judged t other
   unfolding within nameFailure
-  is-six t k x y = rw k
+  is-six t k name other = rw k
 
-  pub new-is : (at : ℕ) {t : Token} {p : Packed} {n : ℕ} {part : Part} → t ≡ tokenAt source at → p ≡ packOf (nameOf source t) → n ≡ nameFailure source scope limit (tokenAt source at)
+  pub new-is : (at : ℕ) {t : Token} {p : Packed} {n : ℕ} {part : Part} → t ≡ tokenAt source at → p ≡ packOf (nameOf source t) → n ≡ nameFailure scope limit t (unpack p)
       → part ≡ partOf {A = ℕ} (within n t (got 0 (t .next))) → gotWith part (unpack p) ≡ newName source scope limit (tokenAt source at)
   new-is at {t} {p} {n} {part} e q f h =
       let u = tokenAt source at in
-      ap (λ x. gotWith x (unpack p)) (h ∙ ap (λ x. partOf {A = ℕ} (within n x (got 0 (x .next)))) e)
-      ∙ passed u n (unpack p)
-      ∙ ap (λ x. within x u (got (unpack p) (u .next))) f
+      ap (λ x. gotWith x (unpack p)) h
+      ∙ passed t n (unpack p)
+      ∙ ap (λ x. within x t (got (unpack p) (t .next))) f
+      ∙ ap (λ x. judged x (unpack p)) e
       ∙ go (eqb (u .kind) Kinds.name) refl
       ∙ sym (new-within u)
     where
-      go : (b : Bool) → eqb (tokenAt source at .kind) Kinds.name ≡ b
-          → within (nameFailure source scope limit (tokenAt source at)) (tokenAt source at) (got (unpack p) (tokenAt source at .next))
-          ≡ within (nameFailure source scope limit (tokenAt source at)) (tokenAt source at) (got (nameOf source (tokenAt source at)) (tokenAt source at .next))
-      go true k = ap (λ x. within (nameFailure source scope limit (tokenAt source at)) (tokenAt source at) (got x (tokenAt source at .next))) (ap unpack (q ∙ ap (λ x. packOf (nameOf source x)) e) ∙ name-unpacked source at k)
+      go : (b : Bool) → eqb (tokenAt source at .kind) Kinds.name ≡ b → judged (tokenAt source at) (unpack p) ≡ judged (tokenAt source at) (nameOf source (tokenAt source at))
+      go true k = ap (judged (tokenAt source at)) (ap unpack (q ∙ ap (λ x. packOf (nameOf source x)) e) ∙ name-unpacked source at k)
       go false k = is-six (tokenAt source at) k _ _
 
   -- a name that was read is not the 513th, and has its word

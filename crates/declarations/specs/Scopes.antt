@@ -7,7 +7,6 @@ use lib.ListN.{length, take}
 use Rattle.prelude.specs.Choice.{whether}
 use Rattle.source.specs.Kinds
 use Rattle.source.specs.declared.Token.{Token}
-use Rattle.source.specs.Tokens.{nameOf}
 use Rattle.tree.specs.Tree as tree
 use Rattle.tree.specs.Symbols as symbols
 use Rattle.grammar.specs.Parse.{is}
@@ -32,11 +31,11 @@ treeItem Item.Integer = tree.Item.integer
 treeItem (Item.Constant v) = tree.Item.constant v
 treeItem (Item.Compconstant v) = tree.Item.compconstant v
 
--- a new name's failure, with the limit of its word, or 0 (F8, F10, J7)
-unfoldable pub nameFailure : List ℕ → symbols.Scope → ℕ → Token → ℕ
-nameFailure source scope limit t =
+-- the failure of a new name, by its token and its characters that count, with the limit of its word; or 0 (F8, F10, J7)
+unfoldable pub nameFailure : symbols.Scope → ℕ → Token → tree.Name → ℕ
+nameFailure scope limit t name =
     whether (is Kinds.name t)
-    (λ _. whether (symbols.isTaken scope (nameOf source t)) (λ _. 8) λ _.
+    (λ _. whether (symbols.isTaken scope name) (λ _. 8) λ _.
     whether (leb symbols.mostNames (length (scope .names))) (λ _. 10) λ _. limit)
     (λ _. 6)
 

@@ -21,6 +21,7 @@ use parser::failures;
 use source::Token;
 use source::kind::NAME;
 use source::token_at;
+use symbols::Packed;
 
 // The names that may be alive, X uncounted (D16).
 const LIVE_NAMES: usize = 512;
@@ -35,16 +36,15 @@ pub fn pass_at(t: Token, number: u16) -> Part
     fail_at(t, number)
 }
 
-// A new name's failure, with the limit of its word, or 0 (F8, F10, J7).
-fn name_failure(source: &[u8], table: &[u16], scope: Scope, limit: u16, at: usize) -> u16
+// The failure of a new name, by its token and its packed words, with the limit of its own word; or 0 (F8, F10, J7).
+fn name_failure(table: &[u16], scope: Scope, limit: u16, t: Token, name: Packed) -> u16
     requires { ⌜ 7 * scope .names ≤ length (now table) ⌝ }
-    ensures { λ r. ⌜ r ≡ nameFailure (now (source .entry)) (scopeOf scope (now (table .entry))) limit (tokenAt (now (source .entry)) at) ⌝ }
+    ensures { λ r. ⌜ r ≡ nameFailure (scopeOf scope (now (table .entry))) limit t (unpack name) ⌝ }
 {
-    let t = token_at(source, at);
     if t.kind != NAME {
         return failures::NOT_ALLOWED;
     }
-    if symbols::is_taken(table, scope.names, symbols::pack(source, t), scope.level) {
+    if symbols::is_taken(table, scope.names, name, scope.level) {
         return failures::NAME_TAKEN;
     }
     if LIVE_NAMES <= scope.names {
@@ -53,7 +53,7 @@ fn name_failure(source: &[u8], table: &[u16], scope: Scope, limit: u16, at: usiz
     limit
 }
 
-// A new name, with the limit of its word.
+// A new name, with the limit of its word; it is packed once, to be looked for and to be declared (C7).
 pub fn new_name(source: &[u8], table: &[u16], scope: Scope, limit: u16, at: usize) -> NameAnswer
     requires { ⌜ 7 * scope .names ≤ length (now table) ⌝ }
     ensures { λ r. ⌜ Gives (r .part) (unpack (r .name))
@@ -61,7 +61,7 @@ pub fn new_name(source: &[u8], table: &[u16], scope: Scope, limit: u16, at: usiz
 {
     let t = token_at(source, at);
     let name = symbols::pack(source, t);
-    let number = name_failure(source, table, scope, limit, at);
+    let number = name_failure(table, scope, limit, t, name);
     NameAnswer {
         part: pass_at(t, number),
         name,

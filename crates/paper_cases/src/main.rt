@@ -1,4 +1,4 @@
-// Cases of the compiler by name, those that proved_cases does not have (K5 to K8, and F1 to F3): the listing of each, what is left in the image
+// Cases of the compiler by name, those that proved_cases does not have (K5 to K8, F1 to F3 and T14): the listing of each, what is left in the image
 // and in scratch, and how the image of an accepted one runs.
 use case_input::parse_number;
 use case_input::part_end;

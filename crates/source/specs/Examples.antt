@@ -8,7 +8,7 @@ use Rattle.prelude.specs.Text.{bytes}
 use Rattle.source.specs.Bytes.{span, sameBytes, startsWith}
 use Rattle.source.specs.Kinds
 use Rattle.source.specs.Keywords.{keywords, keywordLength, keywordKind}
-use Rattle.source.specs.Tokens.{number, constantToken, decimalToken, negativeToken, octalToken, keywordToken, signToken, tokenOf, afterBlanks, tokenAt, nameOf}
+use Rattle.source.specs.Tokens.{number, constantToken, decimalToken, negativeToken, octalToken, keywordToken, signToken, tokenOf, afterBlanks, tokenAt, spelling, nameOf}
 
 -- so many numbers from one on
 abbrev from : ℕ → ℕ → List ℕ
@@ -85,3 +85,13 @@ constants = refl
 six-count : nameOf (bytes " ABCDE1234 ") (tokenAt (bytes " ABCDE1234 ") 0) ≡ bytes "ABCDE1"
 unfolding tokensBy nameOf
 six-count = refl
+
+-- a name in full has its seventh character and all behind it
+whole-name : spelling (bytes " ABCDE1234 ") (tokenAt (bytes " ABCDE1234 ") 0) ≡ bytes "ABCDE1234"
+unfolding tokensBy
+whole-name = refl
+
+-- a shorter name has no character of what follows it
+fewer-count : nameOf (bytes " ABC12 X ") (tokenAt (bytes " ABC12 X ") 0) ≡ bytes "ABC12"
+unfolding tokensBy nameOf
+fewer-count = refl

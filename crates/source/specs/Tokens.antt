@@ -98,9 +98,13 @@ tokenAt source at = afterBlanks tokenOf source at
 unfoldable pub operatorAt : List ℕ → ℕ → Token
 operatorAt source at = afterBlanks operatorOf source at
 
+-- all of a token's bytes (T14)
+abbrev pub spelling : List ℕ → Token → List ℕ
+spelling source t = take (t .next - t .at) (drop (t .at) source)
+
 -- the characters of a name that count, its first six (T7)
 unfoldable pub nameOf : List ℕ → Token → List ℕ
-nameOf source t = take 6 (take (t .next - t .at) (drop (t .at) source))
+nameOf source t = take 6 (spelling source t)
 
 -- the lowest number at a token: n, or the token's own, 4 for unknown bytes and 5 for a numeral out of range (J3, F4, F5)
 unfoldable pub failureAt : Token → ℕ → ℕ

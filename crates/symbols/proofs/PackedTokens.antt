@@ -1,22 +1,22 @@
--- The token of a name has the characters of a name, so that its packed words give it back.
-use Prim.Native.Nat.{ℕ, zero, suc, _+_, _-_}
-use mathlib.Core.Path.{_≡_, refl, sym, ap}
+-- The token of a name has the characters of a name, so that its packed words give it back, and any two pack alike by their first six.
+use Prim.Native.Nat.{ℕ, suc, _+_, _-_}
+use mathlib.Core.Path.{_≡_, refl, sym, ap, _∙_}
 use mathlib.Core.Bool.{Bool, true, false, _||_}
 use mathlib.Core.List.{List, [], _∷_}
 use mathlib.Core.Option.{Option, none, some}
 use native.Mathlib.Omega.{arith}
-use lib.ListN.{take, drop, length, length-take}
+use lib.ListN.{take, drop, length}
 use lib.Seq.{drop-drop}
 use lib.Dec.{eqb, leb}
+use borrow.Author.Tests.{eq-eqb}
 use Rattle.prelude.specs.Choice.{whether, given, find}
 use Rattle.source.specs.Bytes.{isLetter, isDigit, isOctalDigit, isLetterOrDigit, isBlank, span, startsWith, sameBytes}
 use Rattle.source.specs.Kinds
 use Rattle.source.specs.Keywords.{keywords, keywordLength, keywordKind}
 use Rattle.source.specs.declared.Token.{Token}
-use Rattle.source.specs.Tokens.{token, constantToken, decimalToken, negativeToken, octalToken, keywordToken, signs, signToken, tokenOf, afterBlanks, tokenAt, nameOf}
-use Rattle.tree.specs.Tree.{Name}
-use Rattle.symbols.specs.Packing.{allNameBytes, packOf, unpack}
-use Rattle.symbols.proofs.Packing.{unpack-pack}
+use Rattle.source.specs.Tokens.{token, constantToken, decimalToken, negativeToken, octalToken, keywordToken, signs, signToken, tokenOf, afterBlanks, tokenAt, spelling, nameOf}
+use Rattle.symbols.specs.Packing.{allNameBytes, packOf, unpack, PackingLaws}
+use Rattle.symbols.proofs.Packing.{six-cut, six-unpacked, six-decide}
 
 -- ---- Only a letter begins a name
 
@@ -91,16 +91,6 @@ rest-other b bs at =
 
 -- ---- A name's characters
 
-all-take : (n : ℕ) (bs : Name) → allNameBytes bs ≡ true → allNameBytes (take n bs) ≡ true
-unfolding allNameBytes
-all-take zero bs h = refl
-all-take (suc n) [] h = refl
-all-take (suc n) (b ∷ bs) h = go (isLetterOrDigit b) (all-take n bs) h
-  where
-    go : (t : Bool) → (allNameBytes bs ≡ true → allNameBytes (take n bs) ≡ true) → whether t (λ _. allNameBytes bs) (λ _. false) ≡ true → whether t (λ _. allNameBytes (take n bs)) (λ _. false) ≡ true
-    go true ih k = ih k
-    go false ih k = k
-
 all-span : (bs : List ℕ) → allNameBytes (take (span isLetterOrDigit bs) bs) ≡ true
 unfolding allNameBytes span
 all-span [] = refl
@@ -143,17 +133,24 @@ width-is at n = omega arith
 
 module _ (source : List ℕ) (at : ℕ) (h : eqb (tokenAt source at .kind) Kinds.name ≡ true) where
   -- a name has letters and digits alone (T7)
-  pub name-all : allNameBytes (nameOf source (tokenAt source at)) ≡ true
-  unfolding tokenAt afterBlanks nameOf
+  name-all : allNameBytes (spelling source (tokenAt source at)) ≡ true
+  unfolding tokenAt afterBlanks
   name-all =
       let blanks = span isBlank (drop at source) in
       let n = named (drop blanks (drop at source)) (at + blanks) h in
-      rw (n .is, width-is (at + blanks) (n .width), sym (drop-drop blanks at source)) (all-take 6 (take (n .width) (drop blanks (drop at source))) (n .all))
+      rw (n .is, width-is (at + blanks) (n .width), sym (drop-drop blanks at source)) (n .all)
 
   -- a name's packed words give it back
   pub name-unpacked : unpack (packOf (nameOf source (tokenAt source at))) ≡ nameOf source (tokenAt source at)
   unfolding nameOf
-  name-unpacked =
-      let t = tokenAt source at in
-      let l = take (t .next - t .at) (drop (t .at) source) in
-      unpack-pack (nameOf source t) (omega (arith, length-take 6 l)) name-all
+  name-unpacked = let bs = spelling source (tokenAt source at) in ap unpack (six-cut bs) ∙ six-unpacked bs name-all
+
+-- ---- Two names of a source
+
+pub packing-laws : PackingLaws
+packing-laws =
+    record {
+      names = six-decide;
+      tokens = λ source i j h k. six-decide _ _ (name-all source i (eq-eqb _ _ h)) (name-all source j (eq-eqb _ _ k));
+      cut = six-cut;
+    }

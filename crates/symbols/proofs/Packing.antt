@@ -1,10 +1,11 @@
--- Packing loses nothing: three words give back their name, a name its three words, and names pack alike exactly if they are the same.
-use Prim.Native.Nat.{ℕ, zero, suc, _+_, _*_, _/_, _%_, _≤_, _<_}
+-- Packing loses nothing but what stands behind six characters: three words give back themselves, a name its first six, and so names pack alike exactly if these agree.
+use Prim.Native.Nat.{ℕ, zero, suc, _+_, _*_, _/_, _%_, _<_}
 use mathlib.Core.Path.{_≡_, refl, sym, ap, _∙_}
 use mathlib.Core.Bool.{Bool, true, false, _&&_, _||_}
 use mathlib.Core.List.{List, [], _∷_}
 use native.Mathlib.Omega.{arith}
-use lib.ListN.{length, getD}
+use lib.ListN.{length, getD, take, length-take}
+use lib.Seq.{getD-take, take-all, take-nil}
 use lib.Dec.{eqb, leb}
 use borrow.Author.Tests.{eqb-true, eq-eqb, ne-eqb, leb-true}
 use Rattle.prelude.specs.Choice.{whether}
@@ -13,7 +14,7 @@ use Rattle.source.proofs.Same.{equal}
 use Rattle.tree.specs.Tree.{Name}
 use Rattle.tree.specs.Symbols.{isX}
 use Rattle.symbols.specs.declared.Packed.{Packed}
-use Rattle.symbols.specs.Packing.{allNameBytes, packOf, samePacked, beforeTrimmed, trimmed, sixBytes, unpack}
+use Rattle.symbols.specs.Packing.{allNameBytes, pair, packOf, samePacked, beforeTrimmed, trimmed, sixBytes, unpack, SixDecide}
 
 -- ---- Three words give back themselves
 
@@ -40,13 +41,17 @@ whole w = omega arith
 words-same : (a b c d e f : ℕ) → a ≡ d → b ≡ e → c ≡ f → _≡_ {A = Packed} (record { one = a; two = b; three = c }) (record { one = d; two = e; three = f })
 words-same a b c d e f x y z = rw (x, y, z)
 
-pub pack-unpack : (p : Packed) → packOf (unpack p) ≡ p
+pair-same : (bs cs : Name) (i : ℕ) → getD bs i 0 ≡ getD cs i 0 → getD bs (i + 1) 0 ≡ getD cs (i + 1) 0 → pair bs i ≡ pair cs i
+pair-same bs cs i e f = rw (e, f)
+
+pack-unpack : (p : Packed) → packOf (unpack p) ≡ p
 unfolding packOf unpack
 pack-unpack p =
-    rw (trimmed-at (sixBytes p) 0, trimmed-at (sixBytes p) 1, trimmed-at (sixBytes p) 2, trimmed-at (sixBytes p) 3, trimmed-at (sixBytes p) 4, trimmed-at (sixBytes p) 5)
-    (words-same _ _ _ _ _ _ (whole (p .one)) (whole (p .two)) (whole (p .three)))
+    let bs = sixBytes p in
+    let same : (i : ℕ) → pair (trimmed bs) i ≡ pair bs i = λ i. pair-same (trimmed bs) bs i (trimmed-at bs i) (trimmed-at bs (i + 1)) in
+    words-same _ _ _ _ _ _ (same 0 ∙ whole (p .one)) (same 2 ∙ whole (p .two)) (same 4 ∙ whole (p .three))
 
--- ---- A name gives back itself
+-- ---- A name gives back its first six characters
 
 padded : ℕ → Name → List ℕ
 padded zero bs = []
@@ -84,14 +89,13 @@ unfolding beforeTrimmed
 untrimmed b [] h = rw (ne-eqb b 0 (λ e. omega arith))
 untrimmed b (c ∷ cs) h = refl
 
-trimmed-padded : (n : ℕ) (name : Name) → length name ≤ n → allNameBytes name ≡ true → trimmed (padded n name) ≡ name
+trimmed-padded : (n : ℕ) (name : Name) → allNameBytes name ≡ true → trimmed (padded n name) ≡ take n name
 unfolding trimmed padded beforeTrimmed
-trimmed-padded zero [] l h = refl
-trimmed-padded zero (b ∷ bs) l h = absurd (omega arith)
-trimmed-padded (suc n) [] l h = ap (beforeTrimmed 0) (trimmed-padded n [] (omega arith) h)
-trimmed-padded (suc n) (b ∷ bs) l h =
+trimmed-padded zero name h = refl
+trimmed-padded (suc n) [] h = ap (beforeTrimmed 0) (trimmed-padded n [] h ∙ take-nil n)
+trimmed-padded (suc n) (b ∷ bs) h =
     let f = first-byte b bs h in
-    ap (beforeTrimmed b) (trimmed-padded n bs (omega arith) (f .1)) ∙ untrimmed b bs (name-byte b (f .0) .0)
+    ap (beforeTrimmed b) (trimmed-padded n bs (f .1)) ∙ untrimmed b (take n bs) (name-byte b (f .0) .0)
 
 abbrev firstSix : Name → List ℕ
 firstSix name = getD name 0 0 ∷ getD name 1 0 ∷ getD name 2 0 ∷ getD name 3 0 ∷ getD name 4 0 ∷ getD name 5 0 ∷ []
@@ -125,11 +129,18 @@ six-packed name h =
       lower (getD name 4 0) (getD name 5 0) (k 5),
     )
 
-pub unpack-pack : (name : Name) → length name ≤ 6 → allNameBytes name ≡ true → unpack (packOf name) ≡ name
+pub six-unpacked : (name : Name) → allNameBytes name ≡ true → unpack (packOf name) ≡ take 6 name
 unfolding unpack
-unpack-pack name l h = ap trimmed (six-packed name h ∙ six-padded name) ∙ trimmed-padded 6 name l h
+six-unpacked name h = ap trimmed (six-packed name h ∙ six-padded name) ∙ trimmed-padded 6 name h
 
--- ---- Names pack alike exactly if they are the same
+-- packing reads no seventh character
+pub six-cut : (name : Name) → packOf (take 6 name) ≡ packOf name
+unfolding packOf
+six-cut name =
+    let same : (i : ℕ) → i < 5 → pair (take 6 name) i ≡ pair name i = λ i l. pair-same (take 6 name) name i (getD-take 6 name i 0 (omega arith)) (getD-take 6 name (i + 1) 0 (omega arith)) in
+    words-same _ _ _ _ _ _ (same 0 (omega arith)) (same 2 (omega arith)) (same 4 (omega arith))
+
+-- ---- Comparing packed names
 
 same-self : (bs : List ℕ) → sameBytes bs bs ≡ true
 unfolding sameBytes
@@ -159,6 +170,23 @@ same-unpacked p q =
     same-test (samePacked p q) (sameBytes (unpack p) (unpack q))
     (λ h. ap (λ x. sameBytes (unpack x) (unpack q)) (packed-is p q h) ∙ same-self (unpack q))
     (λ h. ap (λ x. samePacked x q) (sym (pack-unpack p) ∙ ap packOf (equal (unpack p) (unpack q) (rw h tt)) ∙ pack-unpack q) ∙ packed-self q)
+
+-- a name of fewer than six characters agrees with itself alone
+short-same : (n m : Name) → length n < 6 → take 6 n ≡ take 6 m → n ≡ m
+short-same n m l e =
+    let same = sym (length-take 6 n) ∙ ap length e ∙ length-take 6 m in
+    sym (take-all 6 n (omega arith)) ∙ e ∙ take-all 6 m (omega (arith, same))
+
+-- THE LAW of packing: six characters decide, and no more
+pub six-decide : (n m : Name) → allNameBytes n ≡ true → allNameBytes m ≡ true → SixDecide n m
+six-decide n m h k =
+    let agreeing : packOf n ≡ packOf m → take 6 n ≡ take 6 m = λ e. sym (six-unpacked n h) ∙ ap unpack e ∙ six-unpacked m k in
+    record {
+      alike = λ e. sym (six-cut n) ∙ ap packOf e ∙ six-cut m;
+      agree = agreeing;
+      shorter = λ l e. short-same n m l (agreeing e);
+      compared = rw (← six-unpacked n h, ← six-unpacked m k) (same-unpacked (packOf n) (packOf m));
+    }
 
 -- X by its packed words (D13)
 pub x-packed : (p : Packed) → isX (unpack p) ≡ samePacked p (record { one = 0o054000; two = 0; three = 0 })

@@ -1,4 +1,4 @@
-// The symbol table: the live names in lent scratch words, ENTRY words each, the newest last. A name is packed once and compared packed.
+// The symbol table: the live names in lent scratch words, ENTRY words each, the newest last. A name is packed once and compared packed (C7).
 // Also what a name stands for, and what a cell is made of, as parsing hands it to emission: values only, no addresses.
 ghost use mathlib.Core.Path.{_≡_};
 ghost use Prim.Native.Nat.{_+_, _≤_, _<_};
@@ -6,7 +6,7 @@ ghost use lib.ListN.{length};
 ghost use Rattle.source.specs.Tokens.{nameOf};
 ghost use Rattle.tree.specs.Symbols.{isX, symbolOf, nextId, isTaken};
 ghost use Rattle.symbols.specs.Trees.{treeId, treeSymbol};
-ghost use Rattle.symbols.specs.Packing.{samePacked, packedAt, pair, packOf, unpack};
+ghost use Rattle.symbols.specs.Packing.{samePacked, packedAt, pair, packOf, unpack, PackingLaws};
 ghost use Rattle.symbols.specs.Table.{entryWords, numberOf, dataOf, levelOf, entryAt, rowOf, liveNames, Newest, Entered};
 use source::Token;
 use source::byte::name_byte;
@@ -77,7 +77,7 @@ pub enum Symbol {
     Unknown,
 }
 
-// The first six characters of a name (T7), two a word, 0 where there is none.
+// The first six characters of a name, two a word, 0 where there is none (T14).
 pub struct Packed {
     pub one: u16,
     pub two: u16,
@@ -117,6 +117,11 @@ pub fn pack(source: &[u8], name: Token) -> Packed
         three: pair_of(source, name, 4),
     }
 }
+
+// Which names pack alike: those whose first six characters are the same, all of them where there are fewer (T14).
+pub fn packing_laws()
+    ensures { λ r. ⌜ PackingLaws ⌝ }
+{}
 
 // Whether the name is X.
 fn is_x(name: Packed) -> bool

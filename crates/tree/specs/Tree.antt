@@ -146,7 +146,7 @@ mutual
 
 -- ---- Declarations and a program
 
--- the first six characters of a name (T7)
+-- a name as bytes; a tree has its first six characters (T7)
 abbrev pub Name : Type 0
 Name = List ℕ
 
