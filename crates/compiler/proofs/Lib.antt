@@ -2,3 +2,4 @@
 pub mod ReadingLaws
 pub mod DemandThree
 pub mod DemandOne
+pub mod ScratchLaws

@@ -5,7 +5,8 @@ use mathlib.Core.Bool.{Bool}
 use mathlib.Core.List.{List, [], _∷_, _++_}
 use native.Mathlib.Omega.{arith}
 use borrow.Author.Tests.{le-leb, lt-leb, eq-eqb, ne-eqb}
-use lib.ListN.{length, getD, replicate}
+use lib.ListN.{length, take, getD, replicate}
+use lib.Seq.{length-take-le}
 use Rattle.parser.specs.declared.Part.{Part}
 use Rattle.tree.specs.Tree.{Program}
 use Rattle.layout.specs.Allocation as layout
@@ -65,6 +66,10 @@ pub on-table : (source table : List ℕ) → tableWords ≤ length table → pro
 unfolding programOn
 on-table source table h = rw (le-leb _ _ h)
 
+-- the part of scratch that is lent as the table is one
+on-scratch : (source scratch : List ℕ) → tableWords ≤ length scratch → programOn source (take tableWords scratch) ≡ programIn source
+on-scratch source scratch h = on-table source (take tableWords scratch) (omega (arith, length-take-le tableWords scratch h))
+
 -- ---- The definition's result
 
 module _ (source : List ℕ) (short : length source ≤ 8192) where
@@ -77,12 +82,12 @@ module _ (source : List ℕ) (short : length source ≤ 8192) where
   result = ap resultOf same
 
   -- nothing was lent, so nothing is changed
-  pub failed-reading : {done : Program → Type 0} {kept : Type 0} {part : Part} {answer : Answer} {k at : ℕ} (lent image table : List ℕ) → length lent ≡ 0 → tableWords ≤ length table
-      → Reads done kept part (programOn source table) → part ≡ Part.Failed k at → answer ≡ Answer.Failed k at → Answers (compileDef source) image answer (lent ++ image)
+  pub failed-reading : {done : Program → Type 0} {kept : Type 0} {part : Part} {answer : Answer} {k at : ℕ} (lent image scratch : List ℕ) → length lent ≡ 0 → tableWords ≤ length scratch
+      → Reads done kept part (programOn source (take tableWords scratch)) → part ≡ Part.Failed k at → answer ≡ Answer.Failed k at → Answers (compileDef source) image answer (lent ++ image)
   unfolding resultOf answerOf imageAfter
-  failed-reading {k = k} {at = at} [] image table h room r p a =
-      let e : compileDef source ≡ Result.failed k at = result ∙ ap resultOf (sym (on-table source table room) ∙ failed-as r p) in (rw (e, a), rw e)
-  failed-reading (x ∷ xs) image table h room r p a = absurd (omega arith)
+  failed-reading {k = k} {at = at} [] image scratch h room r p a =
+      let e : compileDef source ≡ Result.failed k at = result ∙ ap resultOf (sym (on-scratch source scratch room) ∙ failed-as r p) in (rw (e, a), rw e)
+  failed-reading (x ∷ xs) image scratch h room r p a = absurd (omega arith)
 
   module _ (p : Program) (n : ℕ) (is : programIn source ≡ got p n) where
     accepted : compileDef source ≡ Result.accepted (compiled p)
@@ -112,12 +117,12 @@ module _ (source : List ℕ) (short : length source ≤ 8192) where
           ∙ emitted-image source p n (same ∙ is) ∙ sym (ap (λ e. imageAfter e image₀) accepted)
 
   pub accepted-reading : (r : ProgramAnswer) {plan plan' : SectorEnds} {image table image' table' cleared laid' : List ℕ} {flag' : Bool} {s' : Allocation} {end' : Output} {kept kept' : Type 0} {part' : Part} {answer : Answer} {n : ℕ}
-      (image₀ table₀ table₁ : List ℕ) → tableWords ≤ length table₀ → Reads (ProgramEmitted plan image (r .checked) (r .allocation) (r .end) table image') kept (r .part) (programOn source table₀) → answer ≡ answeredOf r → r .part ≡ Part.Read n
-      → plan' ≡ withEnd (r .allocation .sectors) (r .end .next) → cleared ≡ replicate 16384 0 → Reads (ProgramEmitted plan' cleared flag' s' end' table' laid') kept' part' (programOn source table₁) → tableWords ≤ length table₁
+      (image₀ scratch₀ scratch₁ : List ℕ) → tableWords ≤ length scratch₀ → Reads (ProgramEmitted plan image (r .checked) (r .allocation) (r .end) table image') kept (r .part) (programOn source (take tableWords scratch₀)) → answer ≡ answeredOf r → r .part ≡ Part.Read n
+      → plan' ≡ withEnd (r .allocation .sectors) (r .end .next) → cleared ≡ replicate 16384 0 → Reads (ProgramEmitted plan' cleared flag' s' end' table' laid') kept' part' (programOn source (take tableWords scratch₁)) → tableWords ≤ length scratch₁
       → Answers (compileDef source) image₀ answer laid'
-  accepted-reading r {n = n} image₀ table₀ table₁ room first e q l z second room' =
-      let one = came (reads-on (sym (on-table source table₀ room)) first) q in
-      (answer-counted r e q ∙ counted (one .tree) n (one .is) r (one .holds), laid (one .tree) n (one .is) r (one .holds) image₀ l z (reads-on (sym (on-table source table₁ room')) second))
+  accepted-reading r {n = n} image₀ scratch₀ scratch₁ room first e q l z second room' =
+      let one = came (reads-on (sym (on-scratch source scratch₀ room)) first) q in
+      (answer-counted r e q ∙ counted (one .tree) n (one .is) r (one .holds), laid (one .tree) n (one .is) r (one .holds) image₀ l z (reads-on (sym (on-scratch source scratch₁ room')) second))
 
 -- ---- The lengths
 
@@ -136,7 +141,7 @@ module _ (source image scratch : List ℕ) where
   unfolding resultOn answerOf imageAfter
   short-scratch h l = done (Result.failed 2 0) (rw (eq-eqb _ _ h, lt-leb _ _ l)) (refl, refl)
 
-  compiles : length image ≡ memoryWords → scratchWords ≤ length scratch → resultOn source image scratch ≡ compileDef source
+  pub compiles : length image ≡ memoryWords → scratchWords ≤ length scratch → resultOn source image scratch ≡ compileDef source
   unfolding resultOn
   compiles h l = rw (eq-eqb _ _ h, le-leb _ _ l)
 

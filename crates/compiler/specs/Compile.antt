@@ -11,9 +11,9 @@ use Rattle.layout.specs.Addresses.{memoryWords}
 
 -- how much scratch a compile asks for (F2)
 abbrev pub scratchWords : ℕ
-scratchWords = 12288
+scratchWords = 6144
 
--- first what was lent is judged, the image (F1), then scratch (F2), both at 0; the rest, 3 first, is the source's own (J1)
+-- first what was lent is judged, the image (F1), then scratch (F2), both at 0; the rest, 3 first, is the source's own (J1, J15)
 unfoldable pub resultOn : List ℕ → List ℕ → List ℕ → Result
 resultOn source image scratch =
     whether (eqb (length image) memoryWords)

@@ -3,3 +3,4 @@ pub mod Compile
 pub mod Readings
 pub mod DemandThree
 pub mod DemandOne
+pub mod ScratchLaws

@@ -10,6 +10,7 @@ ghost use Rattle.compiler.specs.Compile.{resultOn, Answers, CompileCalle
 ghost use Rattle.compiler.specs.Readings.{countedOf, answeredOf};
 use declarations::ProgramAnswer;
 use declarations::SectorEnds;
+use declarations::program::TABLE_WORDS;
 use declarations::program::program;
 use declarations::with_end;
 use emitter::held_count;
@@ -21,7 +22,8 @@ use parser::failures::SHORT_SCRATCH;
 
 pub mod demand;
 
-const SCRATCH_WORDS: usize = 12288;
+// How much scratch `compile` asks for (F2).
+pub const SCRATCH_WORDS: usize = 6144;
 
 const SOURCE_BYTES: usize = 8192;
 
@@ -87,7 +89,7 @@ fn answered(read: ProgramAnswer) -> Answer
     }
 }
 
-// The two readings.
+// The two readings. They have the first TABLE_WORDS words of scratch, for the symbol table; the rest is only cleared.
 fn read_twice(source: &[u8], image: &mut [u16], scratch: &mut [u16]) -> Answer
     requires { ⌜ (length (now source) ≤ 8192) × (length (now image) ≡ memoryWords) × (tableWords ≤ length (now scratch)) ⌝ }
     ensures { λ r. ⌜ Answers (compileDef (now (source .entry))) (now (image .entry)) r (now (image .exit)) ⌝ }
@@ -96,7 +98,12 @@ fn read_twice(source: &[u8], image: &mut [u16], scratch: &mut [u16]) -> Answer
         ends: [0u16; 32],
         count: 0,
     };
-    let read = program(source, &mut *scratch, &mut image[0..0], unplanned);
+    let read = program(
+        source,
+        &mut scratch[0..TABLE_WORDS],
+        &mut image[0..0],
+        unplanned,
+    );
     let answer = answered(read);
     let Answer::Accepted {
         entry: _,
@@ -111,7 +118,7 @@ fn read_twice(source: &[u8], image: &mut [u16], scratch: &mut [u16]) -> Answer
     let sectors = allocation.sectors;
     let plan = with_end(sectors, end.next);
     clear(&mut *image);
-    program(source, &mut *scratch, &mut *image, plan);
+    program(source, &mut scratch[0..TABLE_WORDS], &mut *image, plan);
     answer
 }
 

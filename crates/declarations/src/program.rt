@@ -49,7 +49,7 @@ use source::token_at;
 use statements::statements;
 
 // The words of a table of 512 names.
-const TABLE_WORDS: usize = 3584;
+pub const TABLE_WORDS: usize = 3584;
 
 // Whether a declaration begins with a token of a kind.
 fn begins(kind: u16) -> bool

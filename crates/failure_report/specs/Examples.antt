@@ -57,8 +57,8 @@ shapes = refl
 -- ---- The words (O3)
 
 words :
-    map wordsOf (1 ∷ 7 ∷ 14 ∷ 20 ∷ 23 ∷ 24 ∷ 27 ∷ [])
-    ≡ bytes "the image has not 16,384 words" ∷ bytes "name undeclared or of the wrong kind" ∷ bytes "more initial values than elements"
+    map wordsOf (1 ∷ 2 ∷ 7 ∷ 14 ∷ 20 ∷ 23 ∷ 24 ∷ 27 ∷ [])
+    ≡ bytes "the image has not 16,384 words" ∷ bytes "scratch has fewer than 6,144 words" ∷ bytes "name undeclared or of the wrong kind" ∷ bytes "more initial values than elements"
     ∷ bytes "the word at P is no instruction; often a subscript left its array" ∷ bytes "P is outside the 16,384 words" ∷ bytes "more than 32,767 litres"
     ∷ bytes "cooperative above 15" ∷ []
 unfolding wordsOf find

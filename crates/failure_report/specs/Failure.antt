@@ -13,7 +13,7 @@ use Rattle.failure_report.specs.Place.{lineOf, columnOf, lineStart, line
 abbrev pub failures : List (ℕ × String)
 failures =
     (1, "the image has not 16,384 words")
-    ∷ (2, "scratch has fewer than 12,288 words")
+    ∷ (2, "scratch has fewer than 6,144 words")
     ∷ (3, "source of more than 8,192 bytes")
     ∷ (4, "unknown byte or keyword (lower-case letters, tabs and carriage returns are unknown bytes)")
     ∷ (5, "number out of its range: constants to 32767, -32768 or '177777, sizes to 8192, shifts 1 to 15")

@@ -8,7 +8,7 @@ pub fn put_words(out: &mut [u8], at: usize, number: u16) -> usize
 {
     match number {
         1 => put_text(out, at, b"the image has not 16,384 words"),
-        2 => put_text(out, at, b"scratch has fewer than 12,288 words"),
+        2 => put_text(out, at, b"scratch has fewer than 6,144 words"),
         3 => put_text(out, at, b"source of more than 8,192 bytes"),
         4 => put_text(
             out,

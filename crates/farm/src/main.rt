@@ -1,6 +1,7 @@
 // The first page and the collection page: a recipe (a source of the report writer's) sums an array of litres.
 // The litres, and the total of the first page, are taken from the machine's memory; the collection page adds up its own totals.
 use compiler::Answer;
+use compiler::SCRATCH_WORDS;
 use digits::put_decimal;
 use digits::put_text;
 use effect::Switches;
@@ -32,7 +33,7 @@ fn run(image: &mut [u16], entry: u16) -> bool {
 
 // Compiles the recipe and runs it; false if one of the two failed.
 fn compile_and_run(image: &mut [u16; 16384]) -> bool {
-    let mut scratch = [0u16; 12288];
+    let mut scratch = [0u16; SCRATCH_WORDS];
     let answer = compiler::compile(
         b".BEGIN .ARRAY LITRES[3] (2140, 1875, 960); .INTEGER TOTAL; .FOR # = -3 .DO TOTAL = TOTAL + LITRES[#] .END",
         &mut *image,

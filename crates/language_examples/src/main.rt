@@ -1,5 +1,6 @@
 // The examples of docs/LANGUAGE.md, and README's first: a heading for each source, and below it what `run` prints of it.
 use arguments::SwitchesArgument;
+use compiler::SCRATCH_WORDS;
 use effect::Switches;
 use libc::STDOUT_FILENO;
 use output::print;
@@ -24,7 +25,7 @@ fn heading(name: &[u8], turns: u32, digits: &[u8], switches: Switches) {
 // Compiles a source, runs it and prints what came of it.
 fn show(source: &[u8], turns: u32, switches: Switches) {
     let mut image = [0u16; 16384];
-    let mut scratch = [0u16; 12288];
+    let mut scratch = [0u16; SCRATCH_WORDS];
     let mut out = [0u8; 262144];
     let size = report::show(source, turns, switches, &mut image, &mut scratch, &mut out);
     print_start(&out, size);

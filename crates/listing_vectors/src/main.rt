@@ -1,12 +1,13 @@
 // Compiles the stored sources and prints the listing of each.
 use case_input::parse_number;
 use case_input::part_end;
+use compiler::SCRATCH_WORDS;
 use libc::STDIN_FILENO;
 use libc::STDOUT_FILENO;
 
 fn listing(source: &[u8]) {
     let mut image = [0u16; 16384];
-    let mut scratch = [0u16; 12288];
+    let mut scratch = [0u16; SCRATCH_WORDS];
     let answer = compiler::compile(source, &mut image, &mut scratch);
     let mut out = [0u8; 262144];
     let size = listing_lines::lines(answer, &image, &mut out);

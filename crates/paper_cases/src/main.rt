@@ -1,8 +1,9 @@
-// Cases of the compiler by name, those that proved_cases does not have (K5 to K8, F1 to F3 and T14): the listing of each, what is left in the image
+// Cases of the compiler by name, those that proved_cases does not have (K5 to K8, F1 to F3, F10, J15 and T14): the listing of each, what is left in the image
 // and in scratch, and how the image of an accepted one runs.
 use case_input::parse_number;
 use case_input::part_end;
 use compiler::Answer;
+use compiler::SCRATCH_WORDS;
 use effect::Registers;
 use effect::Switches;
 use libc::STDIN_FILENO;
@@ -97,11 +98,11 @@ fn listing(source: &[u8], image: &mut [u16], scratch: &mut [u16]) -> bool {
 // A case with so many words of image and of scratch.
 fn lend(source: &[u8], image_size: u32, scratch_size: u32) -> bool {
     let mut image = [MARK; 16385];
-    let mut scratch = [MARK; 12289];
+    let mut scratch = [MARK; 12288];
     let words = image_size as usize;
     let spare = scratch_size as usize;
     if words <= 16385 {
-        if spare <= 12289 {
+        if spare <= 12288 {
             return listing(source, &mut image[0..words], &mut scratch[0..spare]);
         }
     }
@@ -111,7 +112,7 @@ fn lend(source: &[u8], image_size: u32, scratch_size: u32) -> bool {
 // Compiled once more, onto zeros, and run.
 fn run_source(source: &[u8]) {
     let mut image = [0u16; 16384];
-    let mut scratch = [0u16; 12288];
+    let mut scratch = [0u16; SCRATCH_WORDS];
     let answer = compiler::compile(source, &mut image, &mut scratch);
     if let Answer::Accepted {
         entry,

@@ -1,9 +1,9 @@
 -- Worked examples, decided by computation.
-use Prim.Native.Nat.{ℕ, zero, suc, _+_}
+use Prim.Native.Nat.{ℕ, zero, suc, _+_, _/_, _%_}
 use Prim.Native.String.{String}
 use mathlib.Core.Path.{_≡_, refl}
 use mathlib.Core.Bool.{Bool, true, false}
-use mathlib.Core.List.{List, [], _∷_, map}
+use mathlib.Core.List.{List, [], _∷_, _++_, map}
 use lib.ListN.{take, drop, set, replicate}
 use Rattle.word.specs.Arithmetic.{sumOf, compareOf}
 use Rattle.instruction.specs.Table.{generics}
@@ -17,7 +17,7 @@ use Rattle.machine.specs.Step.{memoryDef, genericDef, stepDef}
 use Rattle.machine.specs.Run.{runFrom, runDef}
 use Rattle.turns.specs.Turns.{turnsDef}
 use Rattle.prelude.specs.Choice.{find}
-use Rattle.digits.specs.Digits.{decimalBy, signed}
+use Rattle.digits.specs.Digits.{decimal, decimalBy, signed}
 use Rattle.prelude.specs.Text.{bytes}
 use Rattle.tree.specs.Tree.{Id, Item, Stmt, Stmts, Declaration}
 use Rattle.tree.specs.Symbols.{Symbol}
@@ -25,6 +25,7 @@ use Rattle.layout.specs.Allocation.{start, allocated}
 use Rattle.layout.specs.Computed as layout
 use Rattle.compilation.specs.Compile.{Result, compileDef}
 use Rattle.compilation.specs.Computed as compilation
+use Rattle.compiler.specs.Compile.{scratchWords}
 use Rattle.failure_report.specs.Place.{newlinesBefore, lineStart, visible}
 use Rattle.failure_report.specs.Failure.{wordsOf, placeText, failureText}
 use Rattle.report.specs.Globals.{integerText, elementHead, elementEnd, elementsText, arrayText, declarationText, globalsText, sizeOf, nextArray, idText, symbolText, namesText}
@@ -243,3 +244,8 @@ image-after-run = refl
 image-after-failure : imageShown (Result.failed 6 0) 1 off (5 ∷ 6 ∷ []) ≡ 5 ∷ 6 ∷ []
 unfolding imageShown
 image-after-failure = refl
+
+-- the words of failure 2 name the limit itself, its thousands and the rest (F2, O3)
+limit-in-words : wordsOf 2 ≡ bytes "scratch has fewer than " ++ (decimal (scratchWords / 1000) ++ (bytes "," ++ (decimal (scratchWords % 1000) ++ bytes " words")))
+unfolding wordsOf find decimalBy
+limit-in-words = refl

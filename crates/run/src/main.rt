@@ -1,6 +1,7 @@
 // run [FILE or -] [TURNS] [SWITCHES]: compiles a source from a file or from standard input, runs it and prints what came of it (O10).
 use arguments::SwitchesArgument;
 use arguments::TurnsArgument;
+use compiler::SCRATCH_WORDS;
 use effect::Switches;
 use input::Input;
 use libc::STDIN_FILENO;
@@ -47,7 +48,7 @@ fn switches_argument() -> SwitchesArgument {
 
 fn show(source: &[u8], asked: Asked) {
     let mut image = [0u16; 16384];
-    let mut scratch = [0u16; 12288];
+    let mut scratch = [0u16; SCRATCH_WORDS];
     let mut out = [0u8; 262144];
     let size = report::show(
         source,

@@ -5,6 +5,7 @@ use case_input::part_end;
 use case_output::decimal;
 use case_output::text;
 use compiler::Answer;
+use compiler::SCRATCH_WORDS;
 use libc::STDIN_FILENO;
 use machine::Clock;
 use machine::Machine;
@@ -16,7 +17,7 @@ mod input;
 
 // The entry; 0, where no code stands, for a source that is refused.
 fn compile(source: &[u8], image: &mut [u16]) -> u16 {
-    let mut scratch = [0u16; 12288];
+    let mut scratch = [0u16; SCRATCH_WORDS];
     let answer = compiler::compile(source, image, &mut scratch);
     let Answer::Accepted {
         entry,

@@ -1,7 +1,9 @@
 -- The first reading's answer decides; an accepted source is read again, on the cleared image and by the plan.
 use mathlib.Core.Path.{ap, _∙_}
 use native.Mathlib.Omega.{arith}
-use lib.ListN.{replicate}
+use mathlib.Core.List.{_++_}
+use lib.ListN.{drop, replicate}
+use Rattle.declarations.specs.Scopes.{tableWords}
 use Rattle.compiler.proofs.ReadingLaws.{part-accepted, part-failed, failed-reading, accepted-reading}
 use borrow.Author.Needs.{needs}
 use Rattle.compiler.proofs.read_twice.Statement.{statement}
@@ -15,6 +17,15 @@ part-program-start c = search needs
 
 part-program-end : tie.Need-part-program-end
 part-program-end c = search needs
+
+sub-program-2 : tie.Need-sub-program-2
+sub-program-2 c = search needs
+
+part-program-start-2 : tie.Need-part-program-start-2
+part-program-start-2 c = search needs
+
+part-program-end-2 : tie.Need-part-program-end-2
+part-program-end-2 c = search needs
 
 program-requires : tie.Need-program-requires
 program-requires c κs = search needs
@@ -50,6 +61,15 @@ with-end-requires c κs = search needs
 clear-requires : tie.Need-clear-requires
 clear-requires c κs = search needs
 
+sub-program-3 : tie.Need-sub-program-3
+sub-program-3 c = search needs
+
+part-program-start-3 : tie.Need-part-program-start-3
+part-program-start-3 c = search needs
+
+part-program-end-3 : tie.Need-part-program-end-3
+part-program-end-3 c = search needs
+
 program-requires-2 : tie.Need-program-requires-2
 program-requires-2 c κs = search needs
 
@@ -63,7 +83,7 @@ same-length-4 : tie.Need-same-length-4
 same-length-4 c =
     let at-scratch2 = c .before .before .before in
     let at-scratch = at-scratch2 .before .before .before .before .before .before .before .before .before .before .before .before .before .before .before .before .before .before in
-    at-scratch2 .scratch2 .given ∙ at-scratch .scratch .given
+    at-scratch2 .scratch2 .given .1 ∙ at-scratch .scratch .given .1
 
 returns-2 : tie.Need-returns-2
 returns-2 c =
@@ -73,9 +93,11 @@ returns-2 c =
     let back = answer .before .before in
     let read = back .before .before .before in
     let start = read .before .before .before .before .before .before in
-    accepted-reading _ (start .pre .0) (read .program .result) _ (start .args .scratch .now) _ (start .pre .2) (read .program .ensures .0) (answer .answered .ensures)
+    let scratch = start .args .scratch .now in
+    accepted-reading _ (start .pre .0) (read .program .result) _ scratch (read .program .last .1 .0 ++ drop tableWords scratch) (start .pre .2) (read .program .ensures .0) (answer .answered .ensures)
     (part-accepted _ (answer .answered .ensures) (told .enum-told .given .1) .1) (cleared .before .before .with-end .ensures)
-    (cleared .clear .ensures ∙ ap (λ n. replicate n 0) (back .image .given .1 ∙ start .pre .1)) (c .before .before .before .before .program2 .ensures .0) (omega (arith, start .pre .2, back .before .before .scratch .given))
+    (cleared .clear .ensures ∙ ap (λ n. replicate n 0) (back .image .given .1 ∙ start .pre .1)) (c .before .before .before .before .program2 .ensures .0)
+    (omega (arith, start .pre .2, back .before .before .scratch .given .1))
 
 pub read-twice-spec : {M : Type 1} → statement M
 read-twice-spec =
@@ -84,6 +106,9 @@ read-twice-spec =
     sub-program
     part-program-start
     part-program-end
+    sub-program-2
+    part-program-start-2
+    part-program-end-2
     program-requires
     answered-requires
     enum-told
@@ -93,6 +118,9 @@ read-twice-spec =
     returns
     with-end-requires
     clear-requires
+    sub-program-3
+    part-program-start-3
+    part-program-end-3
     program-requires-2
     same-length-3
     same-length-4
