@@ -5,7 +5,8 @@
     python3 tests/reference.py T7 3f      prints the places that cite these numbers
 
 Says which number is cited and does not exist, in comments and documents; which rule or clause has no row of coverage, no definition,
-or a definition that does not cite it; which row names something that is not there; and which link of a document leads nowhere.
+or a definition that does not cite it; which row names something that is not there; which link of a document leads nowhere;
+and which must-fail edit does not begin with a comment or is not named in docs/CONTRACTS.md, where names in brackets are those of edits.
 It compares numbers and names, not what they say: whether a definition does what its rule says is for a reader, and for what the row names.
 
 A number is cited in a comment by `(T3)`, `(T3, W5)`, `(R2 to R7)` or `(demand 3f)`; in a document anywhere but in backquotes.
@@ -126,6 +127,21 @@ def check_links():
         for target in re.findall(r"\]\(([^)#]+)", unquoted(read(path))):
             if "://" not in target and not (path.parent / target).exists():
                 problem(path.relative_to(TOP), f"links to {target}, which is not there")
+
+
+def check_edits():
+    """Each must-fail edit says what it shows, and docs/CONTRACTS.md names it with what it rules out."""
+    page = read(TOP / "docs/CONTRACTS.md")
+    named = re.findall(r"`([a-z0-9_]+)`", " ".join(re.findall(r"\((`[a-z0-9_]+`(?:, `[a-z0-9_]+`)*)[^)]*\)", page)))
+    edits = sorted((TOP / "crates").glob("*/must-fail/*.edit"))
+    stems = [path.stem for path in edits]
+    for path in edits:
+        if not read(path).startswith("# "):
+            problem(path.relative_to(TOP), "does not say what it shows")
+        if named.count(path.stem) < stems.count(path.stem):
+            problem("docs/CONTRACTS.md", f"does not name the edit {path.relative_to(TOP)}")
+    for name in sorted(set(named) - set(stems)):
+        problem("docs/CONTRACTS.md", f"names an edit {name}, which is not there")
 
 
 # ---- Definitions and what they cite
@@ -305,6 +321,7 @@ def main():
     check_gaps(rules)
     count = check_citations(rules | clauses | requests)
     check_links()
+    check_edits()
     covered = set()
     for place, number, defined, fails in rows():
         if number in covered:

@@ -132,6 +132,13 @@ pool-order : wordsOf ".BEGIN .ARRAY S[1]; S[-1]=5 .END" ≡ (0o1000, 0o077777 �
 unfolding computed
 pool-order = refl
 
+-- procedures and the main body of a sector have one pool, behind them all (A7): the link, LDA 5, JMP* '1000; LDA 6, ADD 5
+one-pool :
+    wordsOf ".BEGIN .PROCEDURE P; .BEGIN @ = 5 .END; @ = 6 + 5 .END"
+    ≡ (0o1003, 0o001000 ∷ [], 0 ∷ 0o005006 ∷ 0o103000 ∷ 0o005007 ∷ 0o015006 ∷ 0o000000 ∷ 5 ∷ 6 ∷ [])
+unfolding computed
+one-pool = refl
+
 -- ---- Subscripts that are tested (W19)
 
 -- LDX I, the test, LDA*; LDX -2, the test, STA*: one word in the pool for -1 and one for -2, which is -size too (A7). The HLT of each test is a word 0
@@ -191,6 +198,13 @@ every-relation :
 unfolding computed
 every-relation = refl
 
+-- a condition whose expression is a conditional one, without brackets (E8): SSC, JMP '1004, LDA 1, JMP '1005, LDA X, SZE, JMP '1010, CRA
+conditional-tested :
+    wordsOf ".BEGIN .WHEN .IF .CSET .THEN 1 .ELSE X .ZERO .THEN @ = .ZERO .END"
+    ≡ (0o1000, [], 0o101001 ∷ 0o003004 ∷ 0o005011 ∷ 0o003005 ∷ 0o004000 ∷ 0o100040 ∷ 0o003010 ∷ 0o140040 ∷ 0o000000 ∷ 1 ∷ [])
+unfolding computed
+conditional-tested = refl
+
 -- each test and its JMP, here to the next test. The skips: SZE, SNZ, SPL, SMI, SLN and SLZ of A; SSC and SRC of C; SS1 to SS4, SSS and SSR of the switches
 every-test :
     wordsOf ".BEGIN .WHEN @ .ZERO .THEN; .WHEN @ .NONZERO .THEN; .WHEN @ .PLUS .THEN; .WHEN @ .MINUS .THEN; .WHEN @ .ODD .THEN; .WHEN @ .EVEN .THEN; .WHEN .CSET .THEN; .WHEN .NOTC .THEN; .WHEN .SENSE1 .THEN; .WHEN .SENSE2 .THEN; .WHEN .SENSE3 .THEN; .WHEN .SENSE4 .THEN; .WHEN .ANYKEY .THEN; .WHEN .NOKEY .THEN .END"
@@ -249,13 +263,23 @@ array-bodies : part 16378 6 (compileDef (bytes ".BEGIN .ARRAY T[3](5, 6), U[1](7
 unfolding computed
 array-bodies = refl
 
--- a pool in each sector: the link, LDA 5, STA A, JMP* '1000, 5; from '2000: LDA 5, ADD 6, HLT, 5, 6
+-- a name as the size of an array, here of none, and as an amount: ALS 15 (D6, D12, E7); out of range it is 5 at the name (F5)
+named-constants : wordsOf ".BEGIN .CONSTANT K=0; .COMPCONSTANT C=15; .ARRAY T[K]; @ = @ .ALS C .END" ≡ (0o1000, 0 ∷ 0o077777 ∷ [], 0o041561 ∷ 0o000000 ∷ [])
+unfolding computed
+named-constants = refl
+
+names-out-of-range :
+    map (λ source. failureOf (compileDef (bytes source))) (".BEGIN .CONSTANT K=16; @=X .ALS K .END" ∷ ".BEGIN .CONSTANT K=8193; .ARRAY T[K]; .END" ∷ []) ≡ (5, 32) ∷ (5, 34) ∷ []
+unfolding computed
+names-out-of-range = refl
+
+-- a pool in each sector, with what that sector names and nothing of the one before it (A9): the link, LDA 4, ADD 5, STA A, JMP* '1000, 4, 5; from '2000: LDA 5, ADD 6, HLT, 5, 6
 abbrev two-sectors : Result
-two-sectors = compileDef (bytes ".BEGIN .INTEGER A; .PROCEDURE P; .BEGIN A = 5 .END; .NEXTSECTOR; @ = 5 + 6 .END")
+two-sectors = compileDef (bytes ".BEGIN .INTEGER A; .PROCEDURE P; .BEGIN A = 4 + 5 .END; .NEXTSECTOR; @ = 5 + 6 .END")
 
 sector-pools :
-    part 0o200 3 two-sectors ∷ part 0o1000 6 two-sectors ∷ part 0o1777 7 two-sectors ∷ []
-    ≡ (0 ∷ 0o001000 ∷ 0 ∷ []) ∷ (0 ∷ 0o005004 ∷ 0o010200 ∷ 0o103000 ∷ 5 ∷ 0 ∷ []) ∷ (0 ∷ 0o005003 ∷ 0o015004 ∷ 0o000000 ∷ 5 ∷ 6 ∷ 0 ∷ []) ∷ []
+    part 0o200 3 two-sectors ∷ part 0o1000 8 two-sectors ∷ part 0o1777 7 two-sectors ∷ []
+    ≡ (0 ∷ 0o001000 ∷ 0 ∷ []) ∷ (0 ∷ 0o005005 ∷ 0o015006 ∷ 0o010200 ∷ 0o103000 ∷ 4 ∷ 5 ∷ 0 ∷ []) ∷ (0 ∷ 0o005003 ∷ 0o015004 ∷ 0o000000 ∷ 5 ∷ 6 ∷ 0 ∷ []) ∷ []
 unfolding computed
 sector-pools = refl
 

@@ -14,7 +14,7 @@ pub fn scratch_laws()
     ensures { λ r. ⌜ ScratchLaws ⌝ }
 {}
 
-// Machine and meaning agree, on whole lists of runs (demand 3a to 3k).
+// Machine and meaning agree, on whole lists of runs (demand 3a to 3l).
 pub fn demand_three_called()
     ensures { λ r. ⌜ Demand3Called ⌝ }
 {}

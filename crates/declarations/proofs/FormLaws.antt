@@ -3,7 +3,7 @@ use Prim.Native.Nat.{ℕ, _≤_}
 use mathlib.Core.Path.{_≡_, refl, sym, ap, _∙_}
 use mathlib.Core.Bool.{Bool, true, false, _&&_}
 use mathlib.Core.List.{List, [], _∷_, _++_, foldl, foldl-append, append-assoc, append-nil}
-use mathlib.Core.Option.{Option, none, some}
+use mathlib.Core.Option.{none, some}
 use native.Mathlib.Omega.{arith}
 use borrow.Author.Tests.{eq-eqb, ne-eqb, eqb-true, eqb-false, leb-true, leb-false}
 use lib.Dec.{eqb, leb}
@@ -21,7 +21,7 @@ use Rattle.grammar.specs.Parse.{Got, andThen, failAt, within, is, expect, snoc,
 use Rattle.grammar.specs.Parse.Got.{got, failed}
 use Rattle.grammar.specs.Cells.{parseInRange}
 use Rattle.grammar.specs.Statements.{parseOutermost}
-use Rattle.grammar.specs.Declarations.{ItemKeyword, newName, sizeOf, parseItem, parseList, parseLocal, parseLocals, parseGlobal, parseInitials, parseArray, parseLimited, parseProcedure, parseAccumulator, declarationKeywords, parseDeclarations}
+use Rattle.grammar.specs.Declarations.{ItemKeyword, newName, sizeOf, parseItem, parseList, parseLocal, parseLocals, parseGlobal, parseInitials, parseArray, parseLimited, parseProcedure, parseAccumulator, declarationKeywords, moreDeclarations, parseDeclarations}
 use Rattle.grammar.specs.Program.{parseMain}
 use Rattle.parser.specs.declared.Part.{Part}
 use Rattle.declarations.specs.declared.Allocation as code
@@ -187,10 +187,7 @@ seven {C} k h a b c d e f g = go (eqb k 24) (eqb k 25) (eqb k 26) (eqb k 27) (eq
     go false false false false false true p q r s t u = f (eqb-true k 29 u)
     go false false false false false false p q r s t u = g (last (eqb-false k 24 p) (eqb-false k 25 q) (eqb-false k 26 r) (eqb-false k 27 s) (eqb-false k 28 t) (eqb-false k 29 u))
 
-abbrev pub declarationMore : List ℕ → Bool → List Declaration → ℕ → Option (Got (List Declaration))
-declarationMore source checked ds n = let t = tokenAt source n in asOneOf (declarationKeywords source checked) t (λ parse. some (parse ds t)) (λ _. none)
-
-pub declarations-first : (source : List ℕ) (checked : Bool) (at : ℕ) {held : List Declaration → Type 0} → held [] → Turning (declarationMore source checked) (parseDeclarations source checked at) held at (length source)
+pub declarations-first : (source : List ℕ) (checked : Bool) (at : ℕ) {held : List Declaration → Type 0} → held [] → Turning (moreDeclarations source checked) (parseDeclarations source checked at) held at (length source)
 unfolding parseDeclarations repeat
 declarations-first source checked at h = record { done = []; holds = h; same = refl }
 
@@ -252,10 +249,10 @@ module _ (source : List ℕ) (checked : Bool) (ds : List Declaration) (t : Token
   token-some h = seven (t .kind) h some-integer some-constant some-compconstant some-array some-sector some-procedure some-accumulator
 
 module _ (source : List ℕ) (checked : Bool) (ds : List Declaration) (at : ℕ) {t : Token} (e : t ≡ tokenAt source at) where
-  pub declaration-none : begins (t .kind) ≡ false → declarationMore source checked ds at ≡ none
+  pub declaration-none : begins (t .kind) ≡ false → moreDeclarations source checked ds at ≡ none
   declaration-none h = rw (← e) (token-none source checked ds t h)
 
-  pub declaration-some : begins (t .kind) ≡ true → declarationMore source checked ds at ≡ some (mapped (λ new. ds ++ new) (declarationIn source checked (allocated ds) t))
+  pub declaration-some : begins (t .kind) ≡ true → moreDeclarations source checked ds at ≡ some (mapped (λ new. ds ++ new) (declarationIn source checked (allocated ds) t))
   declaration-some h = rw (← e) (token-some source checked ds t h)
 
 -- with the allocation that the code has

@@ -11,13 +11,12 @@ use Rattle.prelude.specs.Choice.{whether, given, find}
 use Rattle.source.specs.Kinds
 use Rattle.source.specs.declared.Token.{Token}
 use Rattle.source.specs.Tokens.{tokenAt}
-use Rattle.grammar.specs.Parse.{Got, andThen, is, expect, repeatBy, repeat, separated, snoc}
+use Rattle.grammar.specs.Parse.{Got, andThen, is, expect, repeatBy, repeat, moreSeparated, separated, snoc}
 use Rattle.grammar.specs.Parse.Got.{got, failed}
-use Rattle.grammar.specs.Declarations.{parseList, ItemKeyword, itemKeywords, parseItem, parseLocal, parseLocals}
-use Rattle.parser.proofs.ReadLaws.{onceSeparated, Turning, reads-as}
+use Rattle.grammar.specs.Declarations.{parseList, ItemKeyword, itemKeywords, parseItem, parseLocal, moreLocals, parseLocals}
+use Rattle.parser.proofs.ReadLaws.{Turning, reads-as}
 use Rattle.tree.specs.Tree.{Name, Item}
 use Rattle.tree.specs.Symbols.{Scope, declareItem}
-use Rattle.grammar.specs.Vocabulary.{asOneOf}
 use Rattle.parser.specs.declared.Part.{Part}
 use Rattle.declarations.specs.declared.Scope as code
 use Rattle.declarations.specs.Declares.{Declares}
@@ -53,7 +52,7 @@ module _ {A B : Type 0} (f : A → B) where
       go ih (some g) = step ih g
 
   module _ (source : List ℕ) (more : A → ℕ → Got A) (more' : B → ℕ → Got B) (h : (a : A) (n : ℕ) → more' (f a) n ≡ mapped f (more a n)) where
-    sep : (separator : ℕ) (a : A) (n : ℕ) → onceSeparated source separator more' (f a) n ≡ given (onceSeparated source separator more a n) (λ g. some (mapped f g)) (λ _. none)
+    sep : (separator : ℕ) (a : A) (n : ℕ) → moreSeparated source separator more' (f a) n ≡ given (moreSeparated source separator more a n) (λ g. some (mapped f g)) (λ _. none)
     sep separator a n = go (is separator (tokenAt source n))
       where
         go : (b : Bool) → whether b (λ _. some (more' (f a) (tokenAt source n .next))) (λ _. none) ≡ given (whether b (λ _. some (more a (tokenAt source n .next))) (λ _. none)) (λ g. some (mapped f g)) (λ _. none)
@@ -62,11 +61,11 @@ module _ {A B : Type 0} (f : A → B) where
 
     pub map-separated : (separator : ℕ) (a : A) (at : ℕ) → separated source separator (more' (f a)) more' at ≡ mapped f (separated source separator (more a) more at)
     unfolding separated repeat andThen
-    map-separated separator a at = ap (λ g. andThen g (λ one next. repeatBy (onceSeparated source separator more') (length source) one next)) (h a at) ∙ go (more a at)
+    map-separated separator a at = ap (λ g. andThen g (λ one next. repeatBy (moreSeparated source separator more') (length source) one next)) (h a at) ∙ go (more a at)
       where
-        go : (g : Got A) → andThen (mapped f g) (λ one next. repeatBy (onceSeparated source separator more') (length source) one next)
-            ≡ mapped f (andThen g (λ one next. repeatBy (onceSeparated source separator more) (length source) one next))
-        go (got x n) = map-repeat (onceSeparated source separator more) (onceSeparated source separator more') (sep separator) (length source) x n
+        go : (g : Got A) → andThen (mapped f g) (λ one next. repeatBy (moreSeparated source separator more') (length source) one next)
+            ≡ mapped f (andThen g (λ one next. repeatBy (moreSeparated source separator more) (length source) one next))
+        go (got x n) = map-repeat (moreSeparated source separator more) (moreSeparated source separator more') (sep separator) (length source) x n
         go (failed k b) = refl
 
     pub map-list : (a : A) (at : ℕ) → parseList source more' (f a) at ≡ mapped f (parseList source more a at)
@@ -112,18 +111,15 @@ as-word {B} kind f g = go (find (eqb kind) itemKeywords)
 
 -- ---- Another list of locals
 
-abbrev pub localMore : List ℕ → Scope → List (Name × Item) → ℕ → Option (Got (List (Name × Item)))
-localMore source scope done n = let t = tokenAt source n in asOneOf itemKeywords t (λ word. some (parseList source (parseLocal source scope word) done (t .next))) (λ _. none)
-
-pub locals-first : (source : List ℕ) (scope : Scope) (at : ℕ) {held : List (Name × Item) → Type 0} → held [] → Turning (localMore source scope) (parseLocals source scope at) held at (length source)
+pub locals-first : (source : List ℕ) (scope : Scope) (at : ℕ) {held : List (Name × Item) → Type 0} → held [] → Turning (moreLocals source scope) (parseLocals source scope at) held at (length source)
 unfolding parseLocals repeat
 locals-first source scope at h = record { done = []; holds = h; same = refl }
 
 module _ (source : List ℕ) (scope : Scope) (done : List (Name × Item)) (at : ℕ) {t : Token} (e : t ≡ tokenAt source at) where
-  pub local-none : none ≡ keywordOf (t .kind) → localMore source scope done at ≡ none
+  pub local-none : none ≡ keywordOf (t .kind) → moreLocals source scope done at ≡ none
   local-none h = as-word (tokenAt source at .kind) _ _ ∙ rw (← e, ← h)
 
-  pub local-some : {word : ItemKeyword} → some word ≡ keywordOf (t .kind) → localMore source scope done at ≡ some (parseList source (parseLocal source scope word) done (t .next))
+  pub local-some : {word : ItemKeyword} → some word ≡ keywordOf (t .kind) → moreLocals source scope done at ≡ some (parseList source (parseLocal source scope word) done (t .next))
   local-some h = as-word (tokenAt source at .kind) _ _ ∙ rw (← e, ← h)
 
 -- a list after those that are done

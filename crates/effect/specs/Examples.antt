@@ -49,6 +49,14 @@ each-unary : map (λ row. map (unaryOf (row .0)) before) unaries ≡ map {B = Li
 unfolding unaryOf sumOf
 each-unary = refl
 
+-- -32768 with C at 0: it is its own negative, and only CSA sets C (I10, I13)
+lowest-clear :
+    map (λ slot. unaryOf slot (with 32768 false)) (CRA ∷ CMA ∷ TCA ∷ CHS ∷ SSP ∷ SSM ∷ CSA ∷ CAR ∷ CAL ∷ ICL ∷ AOA ∷ ACA ∷ ICR ∷ ICA ∷ [])
+    ≡ with 0 false ∷ with 32767 false ∷ with 32768 false ∷ with 0 false ∷ with 0 false ∷ with 32768 false ∷ with 0 true ∷
+    with 32768 false ∷ with 0 false ∷ with 128 false ∷ with 32769 false ∷ with 32768 false ∷ with 0 false ∷ with 128 false ∷ []
+unfolding unaryOf sumOf
+lowest-clear = refl
+
 -- ---- Instructions with an operand (I6, I9)
 
 abbrev operands : List (ℕ × ℕ × List Registers)

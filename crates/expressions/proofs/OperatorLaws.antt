@@ -21,7 +21,7 @@ use Rattle.grammar.specs.Parse.Got.{got}
 use Rattle.grammar.specs.Vocabulary.{operators, shifts}
 use Rattle.layout.specs.Words.{Sym, _⧺_, Plain, operatorForm, operatorOpcode, shiftKind, operationWords, operationsWords}
 use Rattle.grammar.specs.Cells.{parseInRange, parseCell}
-use Rattle.grammar.specs.Expressions.{operationOf}
+use Rattle.grammar.specs.Expressions.{operationOf, moreOperations}
 use Rattle.parser.specs.declared.Part.{Part}
 use Rattle.layout.specs.Emission.{Emitted, Bases}
 use Rattle.emitter.specs.Lays.{Lays}
@@ -145,14 +145,11 @@ module _ (source : List ℕ) (names : Names) where
       go none (some r) = ap some (then-then amount (λ m n. got (Operation.shift (r .1) m) n) (λ o n. got (snoc done o) n))
       go none none = refl
 
-  abbrev pub more : List Operation → ℕ → Option (Got (List Operation))
-  more done n = operationOf source names done (operatorAt source n)
-
   module _ (done : List Operation) (i : ℕ) {t : Token} (e : t ≡ operatorAt source i) where
-    pub more-none : operationAt source names t ≡ none → more done i ≡ none
+    pub more-none : operationAt source names t ≡ none → moreOperations source names done i ≡ none
     more-none n = rw (← e, one-more done t, n)
 
-    pub more-some : {g : Got Operation} → operationAt source names t ≡ some g → more done i ≡ some (added done g)
+    pub more-some : {g : Got Operation} → operationAt source names t ≡ some g → moreOperations source names done i ≡ some (added done g)
     more-some n = rw (← e, one-more done t, n)
 
 operations-snoc : (os : List Operation) (o : Operation) → operationsWords os ⧺ operationWords o ≡ operationsWords (snoc os o)

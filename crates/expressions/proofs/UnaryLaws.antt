@@ -16,12 +16,12 @@ use Rattle.source.specs.declared.Token.{Token}
 use Rattle.source.specs.Tokens.{tokenAt}
 use Rattle.tree.specs.Tree.{Unary}
 use Rattle.tree.specs.Symbols.{Names}
-use Rattle.grammar.specs.Parse.{Got, andThen, snoc, repeatBy, repeat}
+use Rattle.grammar.specs.Parse.{andThen, snoc, repeatBy, repeat}
 use Rattle.grammar.specs.Parse.Got.{got}
-use Rattle.grammar.specs.Vocabulary.{unaries, asOneOf}
+use Rattle.grammar.specs.Vocabulary.{unaries}
 use Rattle.layout.specs.Words.{Sym, _⧺_, unaryWords, unariesWords}
 use Rattle.layout.specs.Pool.{literalOf}
-use Rattle.grammar.specs.Expressions.{parseUnaries}
+use Rattle.grammar.specs.Expressions.{moreUnaries, parseUnaries}
 use Rattle.layout.specs.Map.{wordOf}
 use Rattle.layout.specs.Emission.{Emitted, lastAddress, withWord, withLiterals, Bases, emitWord, emitAll}
 use Rattle.emitter.proofs.Lays.{append-length, emit-append, next-below, kept-upto, kept-sets}
@@ -47,14 +47,11 @@ module _ (source : List ℕ) where
   one-more k i r =
       as-some unaries lastSlot (tokenAt source i) (λ u. let rest = unariesBy source k (tokenAt source i .next) in (u ∷ rest .0, rest .1)) (λ _. ([], i)) r
 
-  more : List Unary → ℕ → Option (Got (List Unary))
-  more done n = let t = tokenAt source n in asOneOf unaries t (λ u. some (got (snoc done u) (t .next))) (λ _. none)
-
   -- after those that are read already
-  read-on : (k : ℕ) (done : List Unary) (n : ℕ) → repeatBy more k done n ≡ got (done ++ unariesBy source k n .0) (unariesBy source k n .1)
-  unfolding repeatBy unariesBy more andThen
-  read-on zero done n = rw append-nil
-  read-on (suc k) done n = go (find (eqb (tokenAt source n .kind)) unaries) (read-on k)
+  read-on : (names : Names) (k : ℕ) (done : List Unary) (n : ℕ) → repeatBy (moreUnaries source names) k done n ≡ got (done ++ unariesBy source k n .0) (unariesBy source k n .1)
+  unfolding repeatBy unariesBy andThen
+  read-on names zero done n = rw append-nil
+  read-on names (suc k) done n = go (find (eqb (tokenAt source n .kind)) unaries) (read-on names k)
     where
       next : ℕ
       next = tokenAt source n .next
@@ -65,16 +62,16 @@ module _ (source : List ℕ) where
       found : Option (ℕ × Unary) → List Unary × ℕ
       found o = given o (λ row. (row .1 ∷ rest .0, rest .1)) (λ _. ([], n))
 
-      go : (o : Option (ℕ × Unary)) → ((done : List Unary) (n : ℕ) → repeatBy more k done n ≡ got (done ++ unariesBy source k n .0) (unariesBy source k n .1))
-          → given (given o (λ row. some (got (snoc done (row .1)) next)) (λ _. none)) (λ g. andThen g (λ longer m. repeatBy more k longer m)) (λ _. got done n)
+      go : (o : Option (ℕ × Unary)) → ((done : List Unary) (n : ℕ) → repeatBy (moreUnaries source names) k done n ≡ got (done ++ unariesBy source k n .0) (unariesBy source k n .1))
+          → given (given o (λ row. some (got (snoc done (row .1)) next)) (λ _. none)) (λ g. andThen g (λ longer m. repeatBy (moreUnaries source names) k longer m)) (λ _. got done n)
           ≡ got (done ++ found o .0) (found o .1)
       go none again = rw append-nil
       go (some r) again = again (snoc done (r .1)) next ∙ rw append-assoc
 
 -- THE DEFINITION'S UNARY WORDS are these
 pub unaries-parsed : (source : List ℕ) (names : Names) (at : ℕ) → parseUnaries source names at ≡ got (unariesOf source at) (unariesNext source at)
-unfolding parseUnaries repeat unariesOf unariesNext more
-unaries-parsed source names at = read-on source (length source) [] at
+unfolding parseUnaries repeat unariesOf unariesNext
+unaries-parsed source names at = read-on source names (length source) [] at
 
 -- ---- Runs of stores
 

@@ -57,9 +57,10 @@ shapes = refl
 -- ---- The words (O3)
 
 words :
-    map wordsOf (1 ∷ 2 ∷ 7 ∷ 14 ∷ 20 ∷ 23 ∷ 24 ∷ 27 ∷ [])
+    map wordsOf (1 ∷ 2 ∷ 7 ∷ 14 ∷ 20 ∷ 22 ∷ 23 ∷ 24 ∷ 25 ∷ 26 ∷ 27 ∷ [])
     ≡ bytes "the image has not 16,384 words" ∷ bytes "scratch has fewer than 6,144 words" ∷ bytes "name undeclared or of the wrong kind" ∷ bytes "more initial values than elements"
-    ∷ bytes "the word at P is no instruction; often a subscript left its array" ∷ bytes "P is outside the 16,384 words" ∷ bytes "more than 32,767 litres"
+    ∷ bytes "the word at P is no instruction; often a subscript left its array" ∷ bytes "budget above 1,000,000 steps" ∷ bytes "P is outside the 16,384 words" ∷ bytes "more than 32,767 litres"
+    ∷ bytes "a farm's name is empty, without a newline, over 14 bytes, or has bytes outside 32 to 126" ∷ bytes "output too short, more than 1,000 farms, or not as many names as litres"
     ∷ bytes "cooperative above 15" ∷ []
 unfolding wordsOf find
 words = refl

@@ -55,12 +55,15 @@ module _ (source : List ℕ) (names : Names) where
 
   -- ---- Expressions
 
+  -- one unary word more (E4)
+  abbrev pub moreUnaries : List Unary → ℕ → Option (Got (List Unary))
+  moreUnaries done n =
+      let t = tokenAt source n in
+      asOneOf unaries t (λ u. some (got (snoc done u) (t .next))) (λ _. none)
+
   -- any unary words (E4)
   unfoldable pub parseUnaries : ℕ → Got (List Unary)
-  parseUnaries at =
-      repeat source (λ done n.
-      let t = tokenAt source n in
-      asOneOf unaries t (λ u. some (got (snoc done u) (t .next))) (λ _. none)) [] at
+  parseUnaries at = repeat source moreUnaries [] at
 
   -- one operation, added to those before it: an operator and a cell, or a shift word and its amount (E7)
   unfoldable pub operationOf : List Operation → Token → Option (Got (List Operation))
@@ -69,17 +72,22 @@ module _ (source : List ℕ) (names : Names) where
       asOneOf shifts t (λ o. some (andThen (parseInRange source names (between 1 15) (t .next)) (λ n next. got (snoc done (Operation.shift o n)) next))) λ _.
       none
 
+  -- one operation more (E7)
+  abbrev pub moreOperations : List Operation → ℕ → Option (Got (List Operation))
+  moreOperations done n = operationOf done (operatorAt source n)
+
   -- any operations; where one may stand, a minus is the operator (E4, T11)
   unfoldable pub parseOperations : ℕ → Got (List Operation)
-  parseOperations at = repeat source (λ done n. operationOf done (operatorAt source n)) [] at
+  parseOperations at = repeat source moreOperations [] at
 
   -- unary words, a term and operations (E4)
   unfoldable pub parseChain : (ℕ → Got Expr) → ℕ → Got Expr
   parseChain inner at =
-      andThen (parseUnaries at) (λ us n.
-      andThen (termStart (tokenAt source n)) (λ start m.
-      andThen (termFrom inner start m) (λ term k.
-      andThen (parseOperations k) (λ os next. got (Expr.chain us term os) next))))
+      andThen (parseUnaries at) (λ us termAt.
+      andThen (termStart (tokenAt source termAt)) (λ start afterStart.
+      andThen (termFrom inner start afterStart) (λ term termEnd.
+      andThen (parseOperations termEnd) (λ os next.
+      got (Expr.chain us term os) next))))
 
   -- a condition from after its expression: a relation and a cell, or a test of A (E8); else 6 (J6)
   unfoldable pub condFrom : Expr → Token → Got Cond
@@ -98,11 +106,12 @@ module _ (source : List ℕ) (names : Names) where
   -- a conditional expression, after its `.IF`; all three parts are one level deeper (E5, S13)
   unfoldable pub parseChoice : (ℕ → Got Expr) → ℕ → Got Expr
   parseChoice inner at =
-      andThen (parseCond inner at) (λ c n.
-      andThen (expect Kinds.THEN source n) (λ _ m.
-      andThen (inner m) (λ e k.
-      andThen (expect Kinds.ELSE source k) (λ _ l.
-      andThen (inner l) (λ f next. got (Expr.choose c e f) next)))))
+      andThen (parseCond inner at) (λ c conditionEnd.
+      andThen (expect Kinds.THEN source conditionEnd) (λ _ firstAt.
+      andThen (inner firstAt) (λ e firstEnd.
+      andThen (expect Kinds.ELSE source firstEnd) (λ _ secondAt.
+      andThen (inner secondAt) (λ f next.
+      got (Expr.choose c e f) next)))))
 
   -- an expression at a level too many: 9 at its first token, unless that fails by a lower number (J10, F9)
   unfoldable pub tooDeepExpr : Token → Got Expr

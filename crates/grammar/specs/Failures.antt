@@ -42,6 +42,30 @@ rows =
     (".BEGIN .BEGIN .END-40000 .END", 5, 18) ∷
     (".BEGIN @=X+1-40000 .END", 5, 13) ∷
     (".BEGIN @=X .LGL 1-40000 .END", 5, 18) ∷
+    -- a sign after an array's name, after an element, `@` or `#` on the left, after the counter of a `.FOR`, the subscript `#` and a value; the operator after
+    -- an element or `@` that is a term, and after a lone element; a sign where a value or a term begins, with digits behind it and without
+    (".BEGIN .ARRAY T[1]; @=T-40000 .END", 5, 23) ∷
+    (".BEGIN .ARRAY T[1]; T[1]-40000=1 .END", 5, 24) ∷
+    (".BEGIN @-40000=1 .END", 5, 8) ∷
+    (".BEGIN #-40000=1 .END", 5, 8) ∷
+    (".BEGIN .FOR X-40000=1 .DO .END", 5, 13) ∷
+    (".BEGIN .FOR #-40000=1 .DO .END", 5, 13) ∷
+    (".BEGIN .ARRAY T[1]; @=T[#-40000] .END", 5, 25) ∷
+    (".BEGIN .ARRAY T[2](5-40000); .END", 5, 20) ∷
+    (".BEGIN .ARRAY T[2](5-1); .END", 6, 20) ∷
+    (".BEGIN .CONSTANT A=5-40000; .END", 5, 20) ∷
+    (".BEGIN .CONSTANT A=5, B=A-40000; .END", 5, 25) ∷
+    (".BEGIN .ARRAY T[1]; @=T[1]-40000 .END", 5, 27) ∷
+    (".BEGIN @=@-40000 .END", 5, 11) ∷
+    (".BEGIN .FOR X=X-40000 .DO .END", 5, 16) ∷
+    (".BEGIN .ARRAY T[1]; #=T[1]-40000 .END", 6, 26) ∷
+    (".BEGIN .CONSTANT A=-5; .ARRAY T[-2](A,-1); .END", 0, 0) ∷
+    (".BEGIN .ARRAY T[- 3]; .END", 6, 16) ∷
+    (".BEGIN .ARRAY T[2](5,- 1); .END", 6, 21) ∷
+    (".BEGIN .CONSTANT A=-'17; .END", 6, 19) ∷
+    (".BEGIN .CONSTANT A=5, B=-A; .END", 6, 24) ∷
+    (".BEGIN @=-'17 .END", 6, 9) ∷
+    (".BEGIN @=-X .END", 6, 9) ∷
     -- tokens as long as they can be (T4, T6)
     (".BEGIN .WHEN .SENSE12 .THEN .END", 6, 20) ∷
     (".BEGIN .WHEN .SENSE5 .THEN .END", 4, 13) ∷
@@ -80,15 +104,22 @@ rows =
     (".BEGIN .ACCUMULATOR .INTEGER A; .END", 6, 20) ∷
     (".BEGIN .NEXTSECTOR .END", 6, 19) ∷
     (".BEGIN .ARRAY T[8192],U[7600]; .NEXTSECTOR; .NEXTSECTOR .END", 13, 44) ∷
+    (".BEGIN .ARRAY T[8192],U[7600]; .NEXTSECTOR; .NEXTSECTOR; .END", 13, 44) ∷
     (".BEGIN .INTEGER ; .END", 6, 16) ∷
     (".BEGIN .INTEGER A B; .END", 6, 18) ∷
     (".BEGIN .INTEGER A;; .INTEGER B; .END", 6, 20) ∷
     (".BEGIN .ARRAY T[1](); .END", 6, 19) ∷
+    -- no sign is left out, and none too many: a comma before the `;`, a constant without its `=`, a procedure's name without its `;` (D3, D4, D9)
+    (".BEGIN .INTEGER A,; .END", 6, 18) ∷
+    (".BEGIN .CONSTANT A 1; .END", 6, 19) ∷
+    (".BEGIN .PROCEDURE P .BEGIN .END; .END", 6, 20) ∷
     -- sizes, initial values, amounts
     (".BEGIN .ARRAY T[8192], U['160000]; .END", 13, 32) ∷
     (".BEGIN .ARRAY T[8193]; .END", 5, 16) ∷
     (".BEGIN .ARRAY T[1](5,6); .END", 14, 21) ∷
     (".BEGIN .ARRAY T[1](5,Y); .END", 7, 21) ∷
+    (".BEGIN .ARRAY T[1](5,40000); .END", 5, 21) ∷
+    (".BEGIN .ARRAY T[1](5,); .END", 6, 21) ∷
     (".BEGIN @=X .ALS 15 .END", 0, 0) ∷
     (".BEGIN @=X .ALS 16 .END", 5, 16) ∷
     (".BEGIN @=X .ALS 0 .END", 5, 16) ∷
@@ -196,6 +227,57 @@ nesting :
     (0, 0) ∷ (9, 115) ∷ (0, 0) ∷ (9, 259) ∷ []
 unfolding computed
 nesting = refl
+
+-- each part of each statement is one level deeper than it: 32 passes, 33 is 9 at the part (S12)
+abbrev parts : List String
+parts =
+    ".FOR X=1 .DO X=1" ∷ ".FOR #=1 .DO X=1" ∷ ".IF .CSET .THEN X=1 .ELSE" ∷ ".IF .CSET .THEN .ELSE X=1" ∷ ".WHEN .CSET .THEN X=1" ∷ ".WHILE .CSET .DO X=1" ∷
+    ".BEGIN X=1 .END" ∷ []
+
+nested-parts :
+    map (compound 31) parts ∷ map (compound 32) parts ∷ []
+    ≡ replicate 7 (0, 0) ∷ ((9, 244) ∷ (9, 244) ∷ (9, 247) ∷ (9, 253) ∷ (9, 249) ∷ (9, 248) ∷ (9, 238) ∷ []) ∷ []
+unfolding computed
+nested-parts = refl
+
+-- the start of a `.FOR`, the expression of a condition and the right side are at the statement's own level; brackets in them are one level deeper (S13)
+own-level :
+    map (compound 32) (".FOR X=1 .DO" ∷ ".IF X .ZERO .THEN .ELSE" ∷ ".WHEN X=1 .THEN" ∷ ".WHILE X .ZERO .DO" ∷ "@=1" ∷ "#=1" ∷ []) ∷
+    map (compound 32) (".FOR X=(1) .DO" ∷ ".IF (X) .ZERO .THEN .ELSE" ∷ ".WHEN (X)=1 .THEN" ∷ ".WHILE (X) .ZERO .DO" ∷ "@=(1)" ∷ []) ∷ []
+    ≡ replicate 6 (0, 0) ∷ ((9, 239) ∷ (9, 236) ∷ (9, 238) ∷ (9, 239) ∷ (9, 234) ∷ []) ∷ []
+unfolding computed
+own-level = refl
+
+-- the condition and both parts of a conditional expression are one level deeper than it, each by itself (S13)
+nested-choice :
+    bracketed 30 ".IF (X) .ZERO .THEN (1) .ELSE (2)" ∷ bracketed 31 ".IF (X) .ZERO .THEN 1 .ELSE 2" ∷ bracketed 31 ".IF .CSET .THEN (1) .ELSE 2" ∷
+    bracketed 31 ".IF .CSET .THEN 1 .ELSE (2)" ∷ []
+    ≡ (0, 0) ∷ (9, 36) ∷ (9, 48) ∷ (9, 56) ∷ []
+unfolding computed
+nested-choice = refl
+
+-- at level 33 the first token of a statement: 4, 5, 6 or 7 where it begins none, else 9 whatever follows it (J10)
+too-deep :
+    map (compound 33) ("!" ∷ "40000" ∷ ")" ∷ ".THEN" ∷ "1" ∷ "Y" ∷ "X[" ∷ "@" ∷ "#" ∷ ".IF" ∷ ".WHEN" ∷ ".WHILE" ∷ ".FOR" ∷ ".BEGIN" ∷ [])
+    ≡ (4, 238) ∷ (5, 238) ∷ (6, 238) ∷ (6, 238) ∷ (6, 238) ∷ (7, 238) ∷ replicate 8 (9, 238)
+unfolding computed
+too-deep = refl
+
+-- ---- A sector that is too full at the `.END` of the program or of a procedure: 12 there, whatever stands behind it (J8, J11). With `.CHECKED` each `+T[#]` is eleven words
+
+abbrev inMain : ℕ → String → ℕ × ℕ
+inMain n behind = resultOf (parseProgram (bytes ".BEGIN .CHECKED; .ARRAY T[1]; @=T[#]" ++ (times n (bytes "+T[#]") ++ bytes behind)))
+
+abbrev inProcedure : ℕ → String → ℕ × ℕ
+inProcedure n behind = resultOf (parseProgram (bytes ".BEGIN .CHECKED; .ARRAY T[1]; .PROCEDURE P; .BEGIN @=T[#]" ++ (times n (bytes "+T[#]") ++ bytes behind)))
+
+overfull :
+    inMain 45 " .END" ∷ inMain 45 " .END .END" ∷ inMain 46 " .END" ∷ inMain 46 " .END .END" ∷ inMain 46 " .END !" ∷ inMain 46 " ! .END" ∷
+    inProcedure 45 " .END .END" ∷ inProcedure 46 " .END .END" ∷ inProcedure 46 " .END; !" ∷ []
+    ≡ (0, 0) ∷ (6, 267) ∷ (12, 267) ∷ (12, 267) ∷ (12, 267) ∷ (4, 267) ∷
+    (6, 288) ∷ (12, 288) ∷ (12, 288) ∷ []
+unfolding computed
+overfull = refl
 
 -- ---- 512 live names pass, the 513th is 10, and 8 goes first; a procedure's own name is among those that its locals see (D16, J7)
 

@@ -8,6 +8,7 @@ use lib.Dec.{eqb}
 use Rattle.prelude.specs.Choice.{whether, given}
 use Rattle.source.specs.declared.Token.{Token}
 use Rattle.source.specs.Tokens.{tokenAt, failureAt}
+use Rattle.layout.specs.Limits.{noFailure}
 
 -- a part of the source as a tree, with the offset after it; or a failure's number and offset
 pub data Got (A : Type 0) : Type 0 where
@@ -23,9 +24,9 @@ andThen (failed n at) f = failed n at
 unfoldable pub failAt : {A : Type 0} → Token → ℕ → Got A
 failAt t n = failed (failureAt t n) (t .at)
 
--- goes on if a limit's number is 0, else fails with it at the token
+-- goes on where everything fits, else fails with the limit's number at the token
 unfoldable pub within : {A : Type 0} → ℕ → Token → Got A → Got A
-within limit t g = whether (eqb limit 0) (λ _. g) (λ _. failAt t limit)
+within limit t g = whether (eqb limit noFailure) (λ _. g) (λ _. failAt t limit)
 
 abbrev pub is : ℕ → Token → Bool
 is kind t = eqb (t .kind) kind
@@ -40,7 +41,7 @@ expect kind source at =
 abbrev pub snoc : {A : Type 0} → List A → A → List A
 snoc xs x = xs ++ (x ∷ [])
 
--- any number of parts: `more` adds one to what is read so far, or is none where no more stands. Each part takes a byte or more, so as many turns as the source has bytes are enough
+-- any number of parts: `more` adds one to what is read so far, or is none where no more stands. As many turns as the source has bytes are enough for every use of it: parsing_laws/Turns `TurnsEnough`
 unfoldable pub repeatBy : {A : Type 0} → (A → ℕ → Option (Got A)) → ℕ → A → ℕ → Got A
 repeatBy more zero done at = got done at
 repeatBy more (suc k) done at = given (more done at) (λ g. andThen g (λ longer next. repeatBy more k longer next)) (λ _. got done at)
@@ -48,10 +49,13 @@ repeatBy more (suc k) done at = given (more done at) (λ g. andThen g (λ longer
 unfoldable pub repeat : {A : Type 0} → List ℕ → (A → ℕ → Option (Got A)) → A → ℕ → Got A
 repeat source more done at = repeatBy more (length source) done at
 
+-- one part more, behind a separator; none where no separator stands
+abbrev pub moreSeparated : {A : Type 0} → List ℕ → ℕ → (A → ℕ → Got A) → A → ℕ → Option (Got A)
+moreSeparated source separator more done n =
+    let t = tokenAt source n in
+    whether (is separator t) (λ _. some (more done (t .next))) (λ _. none)
+
 -- one part, then any number more, each after a separator
 unfoldable pub separated : {A : Type 0} → List ℕ → ℕ → (ℕ → Got A) → (A → ℕ → Got A) → ℕ → Got A
 separated source separator first more at =
-    andThen (first at) (λ one next.
-    repeat source (λ done n.
-    let t = tokenAt source n in
-    whether (is separator t) (λ _. some (more done (t .next))) (λ _. none)) one next)
+    andThen (first at) (λ one next. repeat source (moreSeparated source separator more) one next)

@@ -64,16 +64,18 @@ module _ (source : List ℕ) (names : Names) where
   -- what `.IF`, `.WHEN` and `.WHILE` begin with: a condition, the word after it, and the statement that it guards (S4, S5, S6)
   unfoldable pub parseGuarded : (ℕ → Got Expr) → (ℕ → Got Stmt) → ℕ → ℕ → Got (Cond × Stmt)
   parseGuarded expr inner keyword at =
-      andThen (parseCond source names expr at) (λ c n.
-      andThen (expect keyword source n) (λ _ m.
-      andThen (inner m) (λ s next. got (c, s) next)))
+      andThen (parseCond source names expr at) (λ c conditionEnd.
+      andThen (expect keyword source conditionEnd) (λ _ statementAt.
+      andThen (inner statementAt) (λ s next.
+      got (c, s) next)))
 
   -- a choice of two statements (S4)
   unfoldable pub parseIf : (ℕ → Got Expr) → (ℕ → Got Stmt) → ℕ → Got Stmt
   parseIf expr inner at =
-      andThen (parseGuarded expr inner Kinds.THEN at) (λ first n.
-      andThen (expect Kinds.ELSE source n) (λ _ m.
-      andThen (inner m) (λ t next. got (Stmt.if (first .0) (first .1) t) next)))
+      andThen (parseGuarded expr inner Kinds.THEN at) (λ first firstEnd.
+      andThen (expect Kinds.ELSE source firstEnd) (λ _ secondAt.
+      andThen (inner secondAt) (λ t next.
+      got (Stmt.if (first .0) (first .1) t) next)))
 
   -- a statement done or not (S5)
   unfoldable pub parseWhen : (ℕ → Got Expr) → (ℕ → Got Stmt) → ℕ → Got Stmt
@@ -108,12 +110,13 @@ module _ (source : List ℕ) (names : Names) where
       given (nameAs source names asInteger t) (λ i. parseForInteger expr inner i (t .next)) λ _.
       refuse t
 
+  -- one more statement, added to those before it (S10)
+  abbrev pub parseAnother : (ℕ → Got Stmt) → Stmts → ℕ → Got Stmts
+  parseAnother stmt done at = andThen (stmt at) (λ s next. got (Stmts.more done s) next)
+
   -- statements with `;` between them (D1, S10)
   unfoldable pub parseStmts : (ℕ → Got Stmt) → ℕ → Got Stmts
-  parseStmts stmt at =
-      separated source Kinds.semicolon
-      (λ n. andThen (stmt n) (λ s next. got (Stmts.one s) next))
-      (λ done n. andThen (stmt n) (λ s next. got (Stmts.more done s) next)) at
+  parseStmts stmt at = separated source Kinds.semicolon (λ n. andThen (stmt n) (λ s next. got (Stmts.one s) next)) (parseAnother stmt) at
 
   -- a compound, after its `.BEGIN` (S10)
   unfoldable pub parseCompound : (ℕ → Got Stmt) → ℕ → Got Stmt

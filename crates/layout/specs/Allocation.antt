@@ -8,12 +8,16 @@ use Rattle.layout.specs.Words.{Sym, after, procedureWords, mainWords}
 use Rattle.layout.specs.Pool.{literalsOf, addedAll}
 use Rattle.layout.specs.Addresses.{sectorWords, firstCode, firstArray}
 
--- the live names and the count of globals; the next address of code; the open sector's pool; where the code of each closed sector ends; element 0 of the next array
 pub record Allocation : Type 0 where
+  -- the live names, and how many words the globals have taken
   pub scope : Scope
+  -- the next address of code
   pub next : ℕ
+  -- the pool of the sector being filled (A7)
   pub pool : List ℕ
+  -- where the code of each sector before it ends (A8)
   pub ends : List ℕ
+  -- element 0 of the next array (A5)
   pub array : ℕ
 
 -- nothing yet: code begins at '1000, in sector 1, and element 0 of the first array is 16,383 (A4, A5)
@@ -32,10 +36,10 @@ localWords st name locals = foldl declareItem (localScope (st .scope) name) loca
 abbrev pub linkOf : Allocation → Name → List (Name × Item) → ℕ
 linkOf st name locals = st .next + localWords st name locals
 
--- with words emitted at the next address, after so many words that name nothing; their literals go to the pool (A7)
+-- with a body's words, behind the words of its locals and link, if it is a procedure's; its literals go to the pool (A7, W16)
 abbrev pub withCode : Allocation → Scope → ℕ → List Sym → Allocation
-withCode st scope others ws =
-    record { scope = scope; next = after ws (st .next + others); pool = addedAll (st .pool) (literalsOf ws); ends = st .ends; array = st .array }
+withCode st scope front ws =
+    record { scope = scope; next = after ws (st .next + front); pool = addedAll (st .pool) (literalsOf ws); ends = st .ends; array = st .array }
 
 abbrev pub withScope : Allocation → Scope → Allocation
 withScope st scope = record { scope = scope; next = st .next; pool = st .pool; ends = st .ends; array = st .array }

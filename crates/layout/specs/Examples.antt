@@ -275,6 +275,11 @@ full-sector : map {B = ℕ} (λ next. allocate (allocationOf next 0 0 16383) Dec
 unfolding computed
 full-sector = refl
 
+-- and its pool is empty, whatever the one that is closed holds (A9)
+emptied : map (λ pool. allocate (allocationOf 0o1004 pool 0 16383) Declaration.nextSector .pool) (0 ∷ 1 ∷ 512 ∷ []) ≡ [] ∷ [] ∷ [] ∷ []
+unfolding computed
+emptied = refl
+
 -- 12 at the `.END` of the program: LDA 0, STA X, HLT and the 0 that they pool are four words, three if it is pooled already
 abbrev zeroX : Stmts
 zeroX = Stmts.one (Stmt.assign (Target.integer Id.x) (Expr.chain [] (Term.cell (Cell.plain (Operand.literal 0))) []))

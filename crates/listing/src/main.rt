@@ -1,5 +1,6 @@
 // The listing program: reads a source, compiles it onto zeros, and prints the listing (P1). Its stored output is that of the first program (K1).
 use libc::STDIN_FILENO;
+use listing_lines::LONGEST;
 
 fn main() {
     let mut image = [0u16; 16384];
@@ -8,7 +9,7 @@ fn main() {
     let mut text = [0u8; 8193];
     let n = io::read_full(STDIN_FILENO, &mut text);
     let answer = compiler::compile(&text[..n], &mut image, &mut scratch);
-    let mut out = [0u8; 262144];
+    let mut out = [0u8; LONGEST];
     let size = listing_lines::lines(answer, &image, &mut out);
     output::print_start(&out, size);
 }

@@ -10,11 +10,12 @@ use Rattle.digits.specs.Digits.{octalBy}
 use Rattle.digits.specs.Wrote.{largest, Wrote}
 use Rattle.digits.proofs.Laws.{decimal-length}
 use Rattle.prelude.specs.Text.{bytes}
+use Rattle.tree.specs.Tree.{Program}
 use Rattle.compilation.specs.Compile.{Result}
 use Rattle.compilation.specs.Listing.{wordLines, listingDef}
 use Rattle.compiler.specs.Compile.{answerOf, imageAfter}
 use Rattle.compiler.specs.declared.Answer.{Answer}
-use Rattle.listing_lines.specs.Texts.{wordLine, resultLines, countLines, resultFor, Listed, ListingLaws}
+use Rattle.listing_lines.specs.Texts.{wordLine, resultLines, countLines, resultFor, Listed}
 
 -- ---- Words
 
@@ -37,7 +38,7 @@ module _ (name image : List ℕ) (i left : ℕ) where
   none-left h = let e : left ≡ 0 = omega (arith, h) in rw e
 
 -- 16 bytes each
-words-length : (name : List ℕ) → length name ≡ 2 → (at n : ℕ) (ws : List ℕ) → length (wordLines name at (take n ws)) ≤ 16 * n
+pub words-length : (name : List ℕ) → length name ≡ 2 → (at n : ℕ) (ws : List ℕ) → length (wordLines name at (take n ws)) ≤ 16 * n
 unfolding wordLines octalBy
 words-length name two at zero ws = omega arith
 words-length name two at (suc n) [] = omega arith
@@ -45,10 +46,10 @@ words-length name two at (suc n) (w ∷ ws) = simp length-append (omega (arith, 
 
 -- ---- The listing of what `compile` answers and leaves
 
-pub listing-laws : ListingLaws
+pub same-lines : (result : Result) (image : List ℕ) (program : Program) → listingDef (resultFor program (answerOf result) (imageAfter result image)) ≡ listingDef result
 unfolding listingDef answerOf imageAfter
-listing-laws (Result.accepted c) image program = refl
-listing-laws (Result.failed n at) image program = refl
+same-lines (Result.accepted c) image program = refl
+same-lines (Result.failed n at) image program = refl
 
 -- ---- The whole, which is shorter than the largest offset
 

@@ -1,5 +1,5 @@
 -- The listing as a text, and what is written of it.
-use Prim.Native.Nat.{ℕ}
+use Prim.Native.Nat.{ℕ, _≤_}
 use mathlib.Core.Path.{_≡_}
 use mathlib.Core.List.{List, _++_}
 use lib.ListN.{length}
@@ -9,7 +9,7 @@ use Rattle.prelude.specs.Text.{bytes}
 use Rattle.tree.specs.Tree.{Program}
 use Rattle.compilation.specs.Compile.{Result}
 use Rattle.compilation.specs.Listing.{line, listingDef}
-use Rattle.compiler.specs.Compile.{answerOf, imageAfter}
+use Rattle.compiler.specs.Compile.{resultOn, answerOf, imageAfter}
 use Rattle.compiler.specs.declared.Answer.{Answer}
 use Rattle.compiler.specs.declared.Answer.the-variants.{Accepted, Failed}
 
@@ -37,7 +37,12 @@ Listed answer image before after next =
     (program : Program)
     → (after ≡ sets before 0 (listingDef (resultFor program answer image))) × (next ≡ length (listingDef (resultFor program answer image)))
 
--- of what `compile` answers and leaves for a result, the lines are that result's
-abbrev pub ListingLaws : Type 0
-ListingLaws =
-    (result : Result) (image : List ℕ) (program : Program) → listingDef (resultFor program (answerOf result) (imageAfter result image)) ≡ listingDef result
+-- no listing is longer: five lines of 9 + 5 + 13 + 12 + 12 bytes, then 16 bytes for each of at most 384 globals and 15,871 words of code and pool (P1, P2)
+abbrev pub longest : ℕ
+longest = 260131
+
+pub record ListingLaws : Type 0 where
+  -- of what `compile` answers and leaves for a result, the lines are that result's
+  pub same : (result : Result) (image : List ℕ) (program : Program) → listingDef (resultFor program (answerOf result) (imageAfter result image)) ≡ listingDef result
+  -- the listing of every call of `compile` fits in so many bytes, of failures 1 and 2 too, which are not the source's own
+  pub fits : (source image scratch : List ℕ) → length (listingDef (resultOn source image scratch)) ≤ longest

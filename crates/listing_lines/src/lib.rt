@@ -5,11 +5,15 @@ use digits::put_decimal;
 use digits::put_octal;
 use digits::put_text;
 use layout::addresses;
+ghost use mathlib.Core.Path.{_≡_};
 ghost use lib.ListN.{take, drop};
 ghost use Rattle.digits.specs.Digits.{octal, decimal};
 ghost use Rattle.digits.specs.Wrote.{Wrote};
 ghost use Rattle.compilation.specs.Listing.{line, wordLines};
-ghost use Rattle.listing_lines.specs.Texts.{wordLine, resultLines, countLines, Listed, ListingLaws};
+ghost use Rattle.listing_lines.specs.Texts.{wordLine, resultLines, countLines, Listed, longest, ListingLaws};
+
+// The listing of every call of `compile` fits in a buffer of so many bytes (P1).
+pub const LONGEST: usize = 260131;
 
 const FIRST_GLOBAL: usize = addresses::FIRST_GLOBAL as usize;
 
@@ -104,7 +108,9 @@ pub fn lines(answer: Answer, image: &[u16], out: &mut [u8]) -> usize
     }
 }
 
-// The lines of what `compile` answers and leaves are its result's: this function carries the theorem as its contract.
-pub fn listing_laws()
-    ensures { λ r. ⌜ ListingLaws ⌝ }
-{}
+// The lines of what `compile` answers and leaves are its result's, and fit in LONGEST bytes: this function carries the theorems as its contract.
+pub fn listing_laws() -> usize
+    ensures { λ r. ⌜ ListingLaws × (r ≡ longest) ⌝ }
+{
+    LONGEST
+}

@@ -4,12 +4,13 @@ use case_input::part_end;
 use compiler::SCRATCH_WORDS;
 use libc::STDIN_FILENO;
 use libc::STDOUT_FILENO;
+use listing_lines::LONGEST;
 
 fn listing(source: &[u8]) {
     let mut image = [0u16; 16384];
     let mut scratch = [0u16; SCRATCH_WORDS];
     let answer = compiler::compile(source, &mut image, &mut scratch);
-    let mut out = [0u8; 262144];
+    let mut out = [0u8; LONGEST];
     let size = listing_lines::lines(answer, &image, &mut out);
     output::print_start(&out, size);
 }

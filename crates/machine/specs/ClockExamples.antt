@@ -15,7 +15,7 @@ use Rattle.machine.specs.declared.Outcome.{Outcome}
 use Rattle.machine.specs.declared.Outcome.the-variants.{Halted, Spent, Failed}
 use Rattle.machine.specs.State.{State, state}
 use Rattle.machine.specs.Step.{genericDef, stepDef}
-use Rattle.machine.specs.Clock.{startClock, spendMany}
+use Rattle.machine.specs.Clock.{startClock, spendMany, dueOf}
 use Rattle.machine.specs.Run.{Ran, idle, runFrom, runDef, reportOf}
 
 start : startClock ≡ record { common = 0; counts = 0 ∷ 0 ∷ 0 ∷ 0 ∷ 0 ∷ 0 ∷ 0 ∷ 0 ∷ 0 ∷ 0 ∷ 0 ∷ 0 ∷ 0 ∷ 0 ∷ 0 ∷ 0 ∷ [] }
@@ -48,6 +48,15 @@ counted : map (λ (row : ℕ × ℕ × ℕ × ℕ). spendMany (record { budget =
     ≡ map {B = Clock} (λ (row : ℕ × ℕ × ℕ × ℕ). later (row .2) (row .0) (row .3)) steps
 unfolding spendMany
 counted = refl
+
+-- ---- Deadlines (R9)
+
+-- a clock and a deadline: at it, 2^31 - 1 steps after it and 2^31; one step before it; and through zero, both ways
+due :
+    map {B = Bool} (λ (row : ℕ × ℕ). dueOf (row .0) (row .1))
+    ((1000, 1000) ∷ (2147484647, 1000) ∷ (2147484648, 1000) ∷ (999, 1000) ∷ (5, 4294967290) ∷ (4294967290, 5) ∷ [])
+    ≡ true ∷ true ∷ false ∷ false ∷ true ∷ false ∷ []
+due = refl
 
 -- ---- Runs (F27, J12, R6, R7)
 

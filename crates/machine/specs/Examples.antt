@@ -99,8 +99,8 @@ rows =
     -- tags, and what X is added to (I3, I4)
     (
       "LDX does not add X for its own tag",
-      from 0 0o1000 ((0, 5) ∷ (0o1000, 0o072200) ∷ (0o200, 0o111) ∷ (0o205, 0o222) ∷ []) 1,
-      to Spent 1 0 0o1001 ((0, 0o111) ∷ []),
+      from 0 0o1000 ((0, 5) ∷ (0o1000, 0o072200) ∷ (0o200, 0o177111) ∷ (0o205, 0o222) ∷ []) 1,
+      to Spent 1 0 0o1001 ((0, 0o177111) ∷ []),
     ) ∷ (
       "LDX* adds X for the tag of the indirect word",
       from 0 0o1000 ((0, 5) ∷ (0o1000, 0o172200) ∷ (0o200, 0o40300) ∷ (0o300, 0o111) ∷ (0o305, 0o333) ∷ []) 1,
@@ -109,6 +109,20 @@ rows =
       "an index of -1 wraps to the last word",
       from 0 0o1000 ((0, 0o177777) ∷ (0o1000, 0o044000) ∷ (0o37777, 0o4321) ∷ []) 1,
       to Spent 1 0o4321 0o1001 [],
+    ) ∷
+    -- the sector is that of the instruction itself, X is added before an indirect word is fetched, and each such word has a tag of its own (I3)
+    (
+      "an instruction in the last word of a sector addresses that sector",
+      from 0 0o1777 ((0o1777, 0o005005) ∷ (0o1005, 0o111) ∷ (0o2005, 0o222) ∷ []) 1,
+      to Spent 1 0o111 0o2000 [],
+    ) ∷ (
+      "LDA* with its tag adds X to its own address, not to the one that it fetches",
+      from 0 0o1000 ((0, 5) ∷ (0o1000, 0o144200) ∷ (0o200, 0o400) ∷ (0o205, 0o300) ∷ (0o300, 0o111) ∷ (0o405, 0o222) ∷ []) 1,
+      to Spent 1 0o111 0o1001 [],
+    ) ∷ (
+      "an indirect word that leads to another adds X for its tag, and the other has 14 bits of address",
+      from 0 0o1000 ((0, 5) ∷ (0o1000, 0o104200) ∷ (0o200, 0o140300) ∷ (0o305, 0o20007) ∷ (7, 0o222) ∷ (0o20007, 0o111) ∷ []) 1,
+      to Spent 1 0o111 0o1001 [],
     ) ∷
     -- chains (I5); a step that fails leaves the state (R6)
     (

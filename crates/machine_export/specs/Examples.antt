@@ -47,6 +47,30 @@ written : withMachine (replicate MACHINE 99) machine ≡ machine-numbers
 unfolding withMachine stored
 written = refl
 
+-- each of C, the switches and halted set alone: a flag has two values only, so those above could be exchanged
+abbrev flagged : Bool → Bool → Bool → Bool → Bool → Bool → Machine
+flagged c one two three four halted =
+    record { registers = record { a = 0; b = 0; c = c }; p = 0; switches = record { one = one; two = two; three = three; four = four }; halted = halted }
+
+abbrev single-flags : List (List ℕ × Machine)
+single-flags =
+    (0 ∷ 0 ∷ 1 ∷ 0 ∷ 0 ∷ 0 ∷ 0 ∷ 0 ∷ 0 ∷ [], flagged true false false false false false) ∷
+    (0 ∷ 0 ∷ 0 ∷ 0 ∷ 1 ∷ 0 ∷ 0 ∷ 0 ∷ 0 ∷ [], flagged false true false false false false) ∷
+    (0 ∷ 0 ∷ 0 ∷ 0 ∷ 0 ∷ 1 ∷ 0 ∷ 0 ∷ 0 ∷ [], flagged false false true false false false) ∷
+    (0 ∷ 0 ∷ 0 ∷ 0 ∷ 0 ∷ 0 ∷ 1 ∷ 0 ∷ 0 ∷ [], flagged false false false true false false) ∷
+    (0 ∷ 0 ∷ 0 ∷ 0 ∷ 0 ∷ 0 ∷ 0 ∷ 1 ∷ 0 ∷ [], flagged false false false false true false) ∷
+    (0 ∷ 0 ∷ 0 ∷ 0 ∷ 0 ∷ 0 ∷ 0 ∷ 0 ∷ 1 ∷ [], flagged false false false false false true) ∷ []
+
+read-flags : map {B = Machine} (λ (row : List ℕ × Machine). machineOf (row .0)) single-flags ≡ map {B = Machine} (λ (row : List ℕ × Machine). row .1) single-flags
+unfolding machineOf
+read-flags = refl
+
+written-flags :
+    map {B = List ℕ} (λ (row : List ℕ × Machine). withMachine (replicate MACHINE 99) (row .1)) single-flags
+    ≡ map {B = List ℕ} (λ (row : List ℕ × Machine). row .0) single-flags
+unfolding withMachine stored
+written-flags = refl
+
 -- the clock, then the counts (R11)
 read-clock : clockOf (14 ∷ counts) ≡ clock
 read-clock = refl

@@ -9,7 +9,7 @@ use Rattle.tree.specs.Variables.{itemVariables, itemConstants, localsBy, elemen
 use Rattle.memory_map.proofs.Homes.{either}
 
 -- the number of the declaration that a cell is of
-abbrev Of : ℕ → CellId → Type 0
+abbrev pub Of : ℕ → CellId → Type 0
 Of n (CellId.named Id.x) = ⊥
 Of n (CellId.named (Id.global k)) = k ≡ n
 Of n (CellId.named (Id.local q k)) = q ≡ n
@@ -21,10 +21,10 @@ of-one (CellId.named (Id.global l)) m n h k = sym h ∙ k
 of-one (CellId.named (Id.local q l)) m n h k = sym h ∙ k
 of-one (CellId.element a s) m n h k = sym h ∙ k
 
-record From (low : ℕ) (i : CellId) : Type 0 where
-  number : ℕ
-  least : low ≤ number
-  of : Of number i
+pub record From (low : ℕ) (i : CellId) : Type 0 where
+  pub number : ℕ
+  pub least : low ≤ number
+  pub of : Of number i
 
 -- what is listed for declarations from the nth on is of a number of n or more
 module _ {A : Type 0} (cells : Id → Item → List A) (elements : ℕ → ℕ → List A) (key : A → CellId)
@@ -32,10 +32,10 @@ module _ {A : Type 0} (cells : Id → Item → List A) (elements : ℕ → ℕ �
     (element-of : (n size : ℕ) (a : A) → List·Memᴰ a (elements n size) → Of n (key a))
   where
     -- a procedure's locals from the nth on
-    record LocalFrom (q n : ℕ) (a : A) : Type 0 where
-      number : ℕ
-      least : n ≤ number
-      is : key a ≡ CellId.named (Id.local q number)
+    pub record LocalFrom (q n : ℕ) (a : A) : Type 0 where
+      pub number : ℕ
+      pub least : n ≤ number
+      pub is : key a ≡ CellId.named (Id.local q number)
 
     local-from : (q n : ℕ) (ls : List (Name × Item)) (a : A) → List·Memᴰ a (localsBy cells q n ls) → LocalFrom q n a
     unfolding localsBy
@@ -53,7 +53,7 @@ module _ {A : Type 0} (cells : Id → Item → List A) (elements : ℕ → ℕ �
     onward : (m n : ℕ) (a : A) → n ≤ m → From m (key a) → From n (key a)
     onward m n a l r = record { number = r .number; least = omega (arith, r .least); of = r .of }
 
-    from : (n : ℕ) (ds : List Declaration) (a : A) → List·Memᴰ a (declaredBy cells elements n ds) → From n (key a)
+    pub from : (n : ℕ) (ds : List Declaration) (a : A) → List·Memᴰ a (declaredBy cells elements n ds) → From n (key a)
     unfolding declaredBy
     from n [] a h = absurd (List·Memᴰ·not-nil h)
     from n (Declaration.item name item ∷ ds) a h =
@@ -66,10 +66,10 @@ module _ {A : Type 0} (cells : Id → Item → List A) (elements : ℕ → ℕ �
 
 -- ---- Of variables and of constants
 
-abbrev elementsIn : ℕ → ℕ → List CellId
+abbrev pub elementsIn : ℕ → ℕ → List CellId
 elementsIn number size = elementsOf number (65536 - size) size
 
-variable-key : (i : Id) (item : Item) (c : CellId) → List·Memᴰ c (itemVariables i item) → c ≡ CellId.named i
+pub variable-key : (i : Id) (item : Item) (c : CellId) → List·Memᴰ c (itemVariables i item) → c ≡ CellId.named i
 unfolding itemVariables
 variable-key i Item.integer c h = List·Memᴰ·eq-of-singleton h
 variable-key i (Item.constant v) c h = absurd (List·Memᴰ·not-nil h)
@@ -87,25 +87,25 @@ element-of-array number subscript zero c h = absurd (List·Memᴰ·not-nil h)
 element-of-array number subscript (suc n) c h =
     either (CellId.element number subscript ∷ []) (λ x. subst (Of number) (sym (List·Memᴰ·eq-of-singleton x)) refl) (element-of-array number (suc subscript) n c) h
 
-element-in : (n size : ℕ) (c : CellId) → List·Memᴰ c (elementsIn n size) → Of n c
+pub element-in : (n size : ℕ) (c : CellId) → List·Memᴰ c (elementsIn n size) → Of n c
 element-in n size = element-of-array n (65536 - size) size
 
 no-element : (n size : ℕ) (c : CellId × ℕ) → List·Memᴰ c [] → Of n (c .0)
 no-element n size c h = absurd (List·Memᴰ·not-nil h)
 
-abbrev variables : ℕ → List Declaration → List CellId
+abbrev pub variables : ℕ → List Declaration → List CellId
 variables = declaredBy itemVariables elementsIn
 
 abbrev constants : ℕ → List Declaration → List (CellId × ℕ)
 constants = declaredBy itemConstants (λ number size. [])
 
-variable-from : (n : ℕ) (ds : List Declaration) (c : CellId) → List·Memᴰ c (variables n ds) → From n c
+pub variable-from : (n : ℕ) (ds : List Declaration) (c : CellId) → List·Memᴰ c (variables n ds) → From n c
 variable-from = from itemVariables elementsIn (λ c. c) variable-key element-in
 
 constant-from : (n : ℕ) (ds : List Declaration) (c : CellId × ℕ) → List·Memᴰ c (constants n ds) → From n (c .0)
 constant-from = from itemConstants (λ number size. []) (λ c. c .0) constant-key no-element
 
-local-variable : (q n : ℕ) (ls : List (Name × Item)) (c : CellId) → List·Memᴰ c (localsBy itemVariables q n ls) → LocalFrom itemVariables elementsIn (λ c. c) variable-key element-in q n c
+pub local-variable : (q n : ℕ) (ls : List (Name × Item)) (c : CellId) → List·Memᴰ c (localsBy itemVariables q n ls) → LocalFrom itemVariables elementsIn (λ c. c) variable-key element-in q n c
 local-variable = local-from itemVariables elementsIn (λ c. c) variable-key element-in
 
 local-constant : (q n : ℕ) (ls : List (Name × Item)) (c : CellId × ℕ) → List·Memᴰ c (localsBy itemConstants q n ls)
@@ -163,3 +163,20 @@ apart p c v h k =
     either (CellId.named Id.x ∷ [])
     (λ x. let r = constant-from 0 (p .declarations) (c, v) k in subst (Of (r .number)) (List·Memᴰ·eq-of-singleton x) (r .of))
     (λ x. declared-apart 0 (p .declarations) c v x k) h
+
+-- an element is no named constant
+constants-named : (n : ℕ) (ds : List Declaration) (a v w : ℕ) → List·Memᴰ (CellId.element a v, w) (constants n ds) → ⊥
+unfolding declaredBy
+constants-named n [] a v w h = List·Memᴰ·not-nil h
+constants-named n (Declaration.item name item ∷ ds) a v w h =
+    either (itemConstants (Id.global n) item) (λ x. let e = constant-key (Id.global n) item (CellId.element a v, w) x in let z : _≡_ {A = ℕ} 0 1 = cc in omega arith)
+    (constants-named (n + wordsTaken item) ds a v w) h
+constants-named n (Declaration.array name size checked values ∷ ds) a v w h = constants-named (suc n) ds a v w h
+constants-named n (Declaration.procedure name accumulator locals body ∷ ds) a v w h =
+    either (localsBy itemConstants n 0 locals) (λ x. let e = local-constant n 0 locals (CellId.element a v, w) x .is in let z : _≡_ {A = ℕ} 0 1 = cc in omega arith)
+    (constants-named (suc n) ds a v w) h
+constants-named n (Declaration.nextSector ∷ ds) a v w h = constants-named n ds a v w h
+
+pub no-element-constant : (p : Program) (a v w : ℕ) → List·Memᴰ (CellId.element a v, w) (constantsOf p) → ⊥
+unfolding constantsOf
+no-element-constant p a v w h = constants-named 0 (p .declarations) a v w h

@@ -13,7 +13,7 @@ use Rattle.layout.specs.Map.{Frame, addressOf, roleOf, Role, savedRole, frame, 
 use Rattle.layout.specs.Addresses.{savedWord}
 use Rattle.tree.specs.Variables.{variablesOf}
 use Rattle.parsing_laws.specs.WellFormed.{Kind, Context, IdOk, kindsOf}
-use Rattle.memory_map.specs.Laid.{Map, Sound, Direct, ArrayWord, ProcedureWord}
+use Rattle.memory_map.specs.Laid.{Map, Sound, Direct, ArrayAt, ProcedureWord}
 
 -- the words of a frame stand in the map from a on
 pub data Fixed (M : Map) (f : Frame) : ℕ → List Sym → Type 0 where
@@ -40,7 +40,7 @@ pub record Placement (p : Program) : Type 0 where
   pub sound : Sound (mapAt p)
   pub saved-at : mapAt p savedWord ≡ savedRole (p .checked)
   pub homes : (i : CellId) → List·Memᴰ i (variablesOf p) → Home p i
-  pub arrays : (r : Array) → getD (kindsOf (p .declarations)) (r .number) Kind.none ≡ Kind.array (r .size) (r .checked) → ArrayWord (mapAt p) r (0o200 + r .number)
+  pub arrays : (r : Array) → getD (kindsOf (p .declarations)) (r .number) Kind.none ≡ Kind.array (r .size) (r .checked) → ArrayAt (mapAt p) r (0o200 + r .number)
   pub words : (n : ℕ) → getD (kindsOf (p .declarations)) n Kind.none ≡ Kind.procedure → ProcedureWord (mapAt p) n (0o200 + n)
   pub procedures : (before : List Declaration) (name : Name) (accumulator : Bool) (locals : List (Name × Item)) (body : Stmts) (more : List Declaration)
       → p .declarations ≡ before ++ (Declaration.procedure name accumulator locals body ∷ more)

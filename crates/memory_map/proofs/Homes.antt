@@ -179,12 +179,12 @@ pub record Stood (p : Program) (i : CellId) : Type 0 where
   pub here : mapAt p at ≡ Role.cell i value
 
 -- which element a variable is
-record Element (number subscript n : ℕ) (i : CellId) : Type 0 where
-  j : ℕ
-  below : j < n
-  is : i ≡ CellId.element number (subscript + j)
+pub record Element (number subscript n : ℕ) (i : CellId) : Type 0 where
+  pub j : ℕ
+  pub below : j < n
+  pub is : i ≡ CellId.element number (subscript + j)
 
-which-element : (number subscript n : ℕ) (i : CellId) → List·Memᴰ i (elementsOf number subscript n) → Element number subscript n i
+pub which-element : (number subscript n : ℕ) (i : CellId) → List·Memᴰ i (elementsOf number subscript n) → Element number subscript n i
 unfolding elementsOf
 which-element number subscript zero i h = absurd (List·Memᴰ·not-nil h)
 which-element number subscript (suc n) i h = go (which-element number (suc subscript) n i) (List·Memᴰ·cases-cons h)

@@ -14,13 +14,13 @@ use Rattle.tree.specs.Tree.{Id, CellId, Array, Operand, Subscript, Cell, Unary,
 use Rattle.layout.specs.Words.{Sym, _⧺_, Plain, plainWords, unaryPlain, shiftPlain, after, loadWords, aboveWords, belowWords, testWords, subscriptWords, reachWords, instructionWord, cellWords, unaryWords, unariesWords, operatorForm, operationWords, operationsWords, Control, controls, controlWord, controlWords, exprEnd, termEnd, condEnd, targetCell, stmtEnd, stmtsEnd, exprWords, termWords, condWords, stmtWords, stmtsWords}
 use Rattle.layout.specs.Map.{Role, savedRole}
 use Rattle.layout.specs.Addresses.{savedWord}
-use Rattle.memory_map.specs.Laid.{Map, Sits, Stops, Refers, Direct, named, ArrayWord, ProcedureWord, Known, Knows, LaidLoad, TestWords, LaidTest, LaidSubscript, LaidCell, LaidOn, LaidJump, LaidCall, LaidPlain, LaidUnary, LaidUnaries, LaidOperations, controlSits, LaidControls, LaidExpr, LaidTerm, LaidCond, LaidStmt, LaidStmts}
+use Rattle.memory_map.specs.Laid.{Map, Sits, Stops, Refers, Direct, named, ArrayAt, ProcedureWord, Known, Knows, LaidLoad, TestWords, LaidTest, LaidSubscript, LaidCell, LaidOn, LaidJump, LaidCall, LaidPlain, LaidUnary, LaidUnaries, LaidOperations, controlSits, LaidControls, LaidExpr, LaidTerm, LaidCond, LaidStmt, LaidStmts}
 use Rattle.parsing_laws.specs.WellFormed.{Context, ArrayOk, ProcedureOk, CellOk, OperationsOk, TermOk, CondOk, ExprBy, ExprOk, TargetOk, StmtBy, StmtsBy, IsEmpty, StmtOk}
 use Rattle.layout_laws.proofs.Spans.{Span, join, same, along, span-expr, span-term, span-cond, span-stmt, span-stmts}
 
 -- what a context's arrays and procedures have in the map; word 2 is as the arrays' flags say
 pub record Globals (M : Map) (ps : Known) (x : Context) : Type 0 where
-  pub arrays : (r : Array) → ArrayOk x r → ArrayWord M r (0o200 + r .number)
+  pub arrays : (r : Array) → ArrayOk x r → ArrayAt M r (0o200 + r .number)
   pub saved-at : (r : Array) → ArrayOk x r → M savedWord ≡ savedRole (r .checked)
   pub procedures : (p : ℕ) → ProcedureOk x p → ProcedureWord M p (0o200 + p) × Knows ps p
 

@@ -23,16 +23,12 @@ use Rattle.memory_map.proofs.Encodable.{SlotOk, AllOk, WordOk, both, bo
 use Rattle.memory_map.proofs.Bodies.{Body, Placement}
 use Rattle.memory_map.proofs.Reach.{covers}
 use Rattle.memory_map.proofs.KnownProcedures.{knows, known-snoc, known-below}
-use Rattle.parsing_laws.proofs.Parsed.Scopes.{declared as all-declared, kinds-append, append-extends, array-some, procedure-some}
+use Rattle.parsing_laws.proofs.Parsed.Scopes.{declared as all-declared, kinds-extend, array-some, procedure-some}
 use Rattle.compilation.specs.Compile.{Compiled, compiled}
 use Rattle.memory_map.proofs.Placement.{placement}
 use Rattle.memory_map.proofs.Unique.{once, link-once}
 use Rattle.memory_map.proofs.Accepted.{Accepted}
 use Rattle.memory_map.proofs.AtDeclaration.{map-length}
-
--- what is declared by the first of some declarations is declared by all
-kept : (ds es : List Declaration) (n : ℕ) (k : Kind) → (k ≡ Kind.none → ⊥) → getD (kindsOf ds) n Kind.none ≡ k → getD (kindsOf (ds ++ es)) n Kind.none ≡ k
-kept ds es n k some e = ap (λ (l : List Kind). getD l n Kind.none) (kinds-append ds es) ∙ append-extends (kindsOf ds) (kindsOf es) n k some e
 
 -- an array has the program's flag
 flag-of : {checked flag : Bool} {size : ℕ} (ds : List Declaration) → All (Flagged checked) ds → (n : ℕ) → getD (kindsOf ds) n Kind.none ≡ Kind.array size flag → flag ≡ checked
@@ -88,7 +84,7 @@ module _ (p : Program) (w : WellFormed p) (placed : Placement p) where
   }
     where
       all : (n : ℕ) (k : Kind) → (k ≡ Kind.none → ⊥) → getD (kindsOf ds) n Kind.none ≡ k → getD (kindsOf (p .declarations)) n Kind.none ≡ k
-      all n k some h = ap (λ (l : List Declaration). getD (kindsOf l) n Kind.none) e ∙ kept ds es n k some h
+      all n k some h = ap (λ (l : List Declaration). getD (kindsOf l) n Kind.none) e ∙ kinds-extend ds es n k some h
 
       array : (r : Array) → getD (kindsOf ds) (r .number) Kind.none ≡ Kind.array (r .size) (r .checked)
           → getD (kindsOf (p .declarations)) (r .number) Kind.none ≡ Kind.array (r .size) (r .checked)

@@ -19,6 +19,7 @@ pub mod HomesByNumber
 pub mod Unique
 pub mod Homes
 pub mod Apart
+pub mod Subscripts
 pub mod Placement
 pub mod Accepted
 pub mod LaidPrograms

@@ -1,17 +1,17 @@
 -- Everything of a well-formed program stands in its map, where no cell and no link stands twice.
 use Prim.Native.Nat.{ℕ, zero, suc, _+_, _-_, _*_, _/_, _≤_, _<_}
 use mathlib.Core.Path.{_≡_, refl, sym, ap, _∙_, subst}
-use mathlib.Core.Bool.{Bool}
+use mathlib.Core.Bool.{Bool, true}
 use mathlib.Core.Logic.{_⊎_, inl, inr}
 use mathlib.Core.List.{List, [], _∷_, _++_, map, append-nil, List·Memᴰ, List·Memᴰ·cases-cons}
 use native.Mathlib.Omega.{arith}
 use lib.ListN.{length, getD, length-append, List·getD-append}
-use Rattle.tree.specs.Tree.{Id, CellId, Operand, Name, Item, Stmts, Declaration, Program}
+use Rattle.tree.specs.Tree.{Id, CellId, Array, Operand, Name, Item, Stmts, Declaration, Program, isInside}
 use Rattle.layout.specs.Words.{after, procedureWords, mainWords}
 use Rattle.layout.specs.Pool.{literalsOf, indexOf}
 use Rattle.layout.specs.Allocation.{Allocation, start, sectorOf, allocated, localWords, linkOf, allocate, finish}
 use Rattle.layout.specs.Map.{Frame, addressOf, Role, Plan, frame, fixedWords, placeAll, planOf, front, Home, mapAt}
-use Rattle.tree.specs.Variables.{itemVariables, elementsOf, declaredBy, variablesOf, constantsOf}
+use Rattle.tree.specs.Variables.{itemVariables, elementsOf, declaredBy, variablesOf, constantsOf, Declares}
 use Rattle.parsing_laws.specs.WellFormed.{Kind, IdOk, kindsOf, WellFormed}
 use Rattle.memory_map.specs.Laid.{Direct, named, literal}
 use Rattle.memory_map.proofs.Bodies.{Near, Body, Placement}
@@ -24,6 +24,9 @@ use Rattle.memory_map.proofs.SectorPools.{Closing, closing, poolOf, Lit
 use Rattle.memory_map.proofs.FinishedMap.{CellAt, link-word, body-fixed, local-word, code-room}
 use Rattle.memory_map.proofs.Homes.{GlobalAt, global-as, globals, Stood, variables, constants}
 use Rattle.memory_map.proofs.PoolLaws.{same, all-held}
+use Rattle.memory_map.proofs.Apart.{no-element-constant}
+use Rattle.memory_map.proofs.Unique.{cell-declared}
+use Rattle.memory_map.proofs.Subscripts.{elements, array-declared}
 use Rattle.memory_map.specs.MapLaws.{Extends, StandsAt}
 
 -- an address in a sector
@@ -171,6 +174,11 @@ module _ (p : Program) (w : WellFormed p) where
   unfolding allocated
   at-place before ds e = split p before start [] ds (front p) (subst (λ (l : List Declaration). Here p start [] l (front p)) e (begin p w))
 
+  -- an element of an array's number that is declared is one of its own
+  only : (r : Array) → getD (kindsOf (p .declarations)) (r .number) Kind.none ≡ Kind.array (r .size) (r .checked) → (v u : ℕ) → Declares p (CellId.element (r .number) v) u → isInside r v ≡ true
+  only r e v u (Declares.variable m) = elements p w r (array-declared p w r e) .only-inside v m
+  only r e v u (Declares.constant m) = absurd (no-element-constant p (r .number) v u m)
+
   -- a named constant stands with its value
   pub constant-home : (c : CellId × ℕ) → List·Memᴰ c (constantsOf p) → StandsAt p (c .0) (c .1)
   unfolding constantsOf
@@ -194,7 +202,7 @@ module _ (p : Program) (w : WellFormed p) where
       sound = record { x-at = x-at; once = once; link-once = link-once };
       saved-at = front-at 2 (omega arith);
       homes = home;
-      arrays = λ r e. subst (λ (k : Kind). GlobalAt p (r .number) k) e (global-at (r .number));
+      arrays = λ r e. record { word = subst (λ (k : Kind). GlobalAt p (r .number) k) e (global-at (r .number)); place = refl; only = λ v l u q. only r e v u (cell-declared p w l _ u q) };
       words = λ n e. subst (λ (k : Kind). GlobalAt p n k) e (global-at n);
       procedures = λ before name accumulator locals body more e.
           let d = Declaration.procedure name accumulator locals body in

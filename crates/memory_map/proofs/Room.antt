@@ -2,10 +2,10 @@
 use Prim.Native.Nat.{ℕ, zero, suc, _+_, _*_, _≤_, _<_}
 use mathlib.Core.Path.{_≡_, refl, sym, ap, _∙_, subst}
 use mathlib.Core.Bool.{Bool, true, false}
-use mathlib.Core.List.{List, [], _∷_, _++_, foldl, append-assoc, append-nil}
+use mathlib.Core.List.{List, [], _∷_, _++_, foldl, foldl-append, append-assoc, append-nil}
 use native.Mathlib.Omega.{arith}
-use borrow.Author.Tests.{leb-true, ltb-true}
-use lib.ListN.{length}
+use borrow.Author.Tests.{leb-true, ltb-true, le-leb}
+use lib.ListN.{length, length-append}
 use lib.Dec.{leb, ltb}
 use Rattle.prelude.specs.Choice.{whether}
 use Rattle.tree.specs.Tree.{Stmts, Declaration}
@@ -103,3 +103,33 @@ room (d ∷ ds) st ks main f h = before st ks d (f .0) (room ds (allocate st d) 
 pub all-fits : (ds : List Declaration) (main : Stmts) → mainLimit (allocated ds) main ≡ 0 → Fits (finish (foldl allocate start ds) main)
 unfolding allocated
 all-fits ds main h = finish-fits (foldl allocate start ds) main h
+
+-- ---- What is read is in one sector, so that 12 does not come at a `.NEXTSECTOR`
+
+abbrev InSector : Allocation → Type 0
+InSector st = st .next + length (st .pool) ≤ 512 * suc (sectorOf st)
+
+still-in : (st : Allocation) (ks : List Kind) (d : Declaration) → DeclarationOk st ks d → InSector st → InSector (allocate st d)
+unfolding allocate declarationLimit
+still-in st ks (Declaration.item name item) ok h = h
+still-in st ks (Declaration.array name size checked values) ok h = h
+still-in st ks (Declaration.procedure name accumulator locals body) ok h = sector-fits (allocate st (Declaration.procedure name accumulator locals body)) (ok .3) .sector
+still-in st ks Declaration.nextSector ok h = omega (arith, length-append (st .ends) (st .next ∷ []))
+
+in-sector : {ds : List Declaration} → DeclarationsOk ds → InSector (allocated ds)
+unfolding allocated
+in-sector none = omega arith
+in-sector (more ds d h ok) = subst InSector (sym (foldl-append allocate start ds (d ∷ []))) (still-in (allocated ds) (kindsOf ds) d ok (in-sector h))
+
+not-12 : (b : Bool) → _≡_ {A = ℕ} (whether b (λ _. 0) (λ _. 13)) 12 → ⊥
+not-12 true e = omega arith
+not-12 false e = omega arith
+
+followed : (st : Allocation) (b : Bool) → followLimit st (whether b (λ _. 0) (λ _. 13)) ≡ 12 → ⊥
+unfolding followLimit
+followed st true e = not-12 (ltb (sectorOf st) 31) e
+followed st false e = omega arith
+
+pub never-12 : (ds : List Declaration) → DeclarationsOk ds → declarationLimit (allocated ds) Declaration.nextSector ≡ 12 → ⊥
+unfolding declarationLimit sectorLimit spaceLimit
+never-12 ds h e = let st = allocated ds in followed st (leb (st .next + length (st .pool) + 0) (st .array)) (rw (le-leb _ _ (in-sector h)) at e)

@@ -5,7 +5,8 @@ use mathlib.Core.Path.{_≡_}
 use mathlib.Core.Bool.{Bool, true, false}
 use mathlib.Core.List.{List, [], _∷_}
 use mathlib.Core.Option.{Option}
-use Rattle.instruction.specs.Opcode.{JMP, LDA, STA, JST, CAS, IRS, LDX}
+use Rattle.word.specs.Shift.{LRS}
+use Rattle.instruction.specs.Opcode.{JMP, LDA, STA, JST, CAS, IRS, LDX, DIV}
 use Rattle.instruction.specs.Slot.{HLT, SKP, NOP, CRA, SPL, TCA}
 use Rattle.instruction.specs.Decode.{decodeDef}
 use Rattle.instruction.specs.Field.{indirectOf, tagOf}
@@ -16,7 +17,7 @@ use Rattle.tree.specs.Tree.{Id, CellId, Array, Operand, Subscript, Cell, Unary,
 use Rattle.tree.specs.Tree as tree
 use Rattle.layout.specs.Words.{after, mainWords, Plain, Control, unaryPlain, operatorForm, shiftPlain, testSlot, bareSlot, controls, targetCell}
 use Rattle.layout.specs.Map.{Role}
-use Rattle.layout.specs.Addresses.{memoryWords, savedWord}
+use Rattle.layout.specs.Addresses.{memoryWords, firstGlobal, savedWord}
 
 abbrev pub Map : Type 0
 Map = ℕ → Role
@@ -61,6 +62,17 @@ pub record ArrayWord (M : Map) (a : Array) (k : ℕ) : Type 0 where
   pub tagged : tagOf word ≡ true
   pub initial : ℕ → ℕ
   pub elements : (v : ℕ) → isInside a v ≡ true → M ((word % memoryWords + v) % memoryWords) ≡ Role.cell (CellId.element (a .number) v) (initial v)
+
+-- an array's word at its place among the globals (A3); nothing in the map is an element of that number but those that the array's subscripts name (D7)
+pub record ArrayAt (M : Map) (a : Array) (k : ℕ) : Type 0 where
+  pub word : ArrayWord M a k
+  pub place : k ≡ firstGlobal + a .number
+  pub only : (v l w : ℕ) → M l ≡ Role.cell (CellId.element (a .number) v) w → isInside a v ≡ true
+
+-- an instruction at b goes through the word at k; of a division b is its LRS, the word ahead of the DIV (W2, W18)
+pub data Through (M : Map) (k : ℕ) : ℕ → Type 0 where
+  instruction : {b opcode : ℕ} → (opcode ≡ DIV → ⊥) → Refers M b opcode true k → Through M k b
+  division : {b : ℕ} → Sits M b (Shift LRS 15) → Refers M (suc b) DIV true k → Through M k b
 
 -- a procedure word: the link's address (A3)
 pub record ProcedureWord (M : Map) (p k : ℕ) : Type 0 where
@@ -113,7 +125,7 @@ module _ (M : Map) where
   -- a cell's own words go from a to m; the instruction at m then has the indirect flag i and refers to k (W1, W2)
   pub data LaidCell : Cell → ℕ → ℕ → Bool → ℕ → Type 0 where
     plain : {o : Operand} {a k : ℕ} → Direct M o k → LaidCell (Cell.plain o) a a false k
-    item : {r : Array} {s : Subscript} {a m k : ℕ} → LaidSubscript r s a m → ArrayWord M r k → LaidCell (Cell.item r s) a m true k
+    item : {r : Array} {s : Subscript} {a m k : ℕ} → LaidSubscript r s a m → ArrayAt M r k → LaidCell (Cell.item r s) a m true k
 
   pub data LaidOn (opcode : ℕ) : Cell → ℕ → ℕ → Type 0 where
     on : {c : Cell} {a m k : ℕ} {indirect : Bool} → LaidCell c a m indirect k → Refers M m opcode indirect k → LaidOn opcode c a (suc m)

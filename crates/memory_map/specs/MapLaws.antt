@@ -4,14 +4,15 @@ use mathlib.Core.Path.{_≡_}
 use mathlib.Core.Bool.{Bool}
 use mathlib.Core.List.{List, [], _∷_, _++_, List·Memᴰ}
 use lib.ListN.{length, getD}
-use Rattle.tree.specs.Tree.{CellId, Name, Item, Stmts, Declaration, Program}
+use Rattle.tree.specs.Tree.{CellId, Array, Name, Item, Stmts, Declaration, Program}
 use Rattle.layout.specs.Words.{Sym, procedureWords, mainWords}
 use Rattle.layout.specs.Pool.{literalsOf, indexOf, addedAll}
 use Rattle.layout.specs.Allocation.{linkOf, allocated}
 use Rattle.layout.specs.Map.{planOf, finished, Role, Home, mapAt}
 use Rattle.compilation.specs.Compile.{Compiled, Result, compiled, compileDef}
-use Rattle.tree.specs.Variables.{variablesOf, constantsOf}
-use Rattle.parsing_laws.specs.WellFormed.{WellFormed}
+use Rattle.tree.specs.Variables.{variablesOf, constantsOf, Declares, arraysOf, Elements}
+use Rattle.layout.specs.Limits.{declarationLimit}
+use Rattle.parsing_laws.specs.WellFormed.{DeclarationsOk, WellFormed}
 use Rattle.memory_map.specs.Laid.{Sound, LaidProgram}
 use Rattle.memory_map.specs.KnownProcedures.{knownOf}
 use Rattle.layout.specs.Addresses.{memoryWords}
@@ -52,12 +53,18 @@ pub record MapLaws : Type 0 where
   -- every accepted program is well-formed, and nothing but its tree decides what it compiles to
   pub well-formed : (source : List ℕ) (c : Compiled) → compileDef source ≡ Result.accepted c → WellFormed (c .program)
   pub by-tree : (source : List ℕ) (c : Compiled) → compileDef source ≡ Result.accepted c → c ≡ compiled (c .program)
+  -- 12 never comes at a `.NEXTSECTOR`, behind declarations that are well-formed, as all are that are read (J8)
+  pub never-12 : (ds : List Declaration) → DeclarationsOk ds → declarationLimit (allocated ds) Declaration.nextSector ≡ 12 → ⊥
   -- the image has 16,384 words (A1)
   pub image-size : (source : List ℕ) (c : Compiled) → compileDef source ≡ Result.accepted c → length (c .image) ≡ memoryWords
   -- each variable that is declared, X too, has one home (M2, demand 3g)
   pub homes : (source : List ℕ) (c : Compiled) → compileDef source ≡ Result.accepted c → (i : CellId) → List·Memᴰ i (variablesOf (c .program)) → Home (c .program) i
   -- and each named constant has one, which holds its value (M2)
   pub constants : (source : List ℕ) (c : Compiled) → compileDef source ≡ Result.accepted c → (i : CellId) (v : ℕ) → List·Memᴰ (i, v) (constantsOf (c .program)) → StandsAt (c .program) i v
+  -- and there is no other cell: each of the map is a variable or a named constant with its value (M2, demand 3g)
+  pub cells : (source : List ℕ) (c : Compiled) → compileDef source ≡ Result.accepted c → (k : ℕ) (i : CellId) (v : ℕ) → mapAt (c .program) k ≡ Role.cell i v → Declares (c .program) i v
+  -- a word is one of an array's subscripts exactly if the element that it names is a variable (D7, M2, M9)
+  pub elements : (source : List ℕ) (c : Compiled) → compileDef source ≡ Result.accepted c → (a : Array) → List·Memᴰ a (arraysOf (c .program)) → Elements (c .program) a
   -- X's home is word 0 (A2); no link stands twice
   pub sound : (source : List ℕ) (c : Compiled) → compileDef source ≡ Result.accepted c → Sound (mapAt (c .program))
   -- code, array words and procedure words are fixed words of the map, in one sector with what they refer to: every body stands there as the relation says

@@ -1,5 +1,5 @@
-// Cases of the compiler by name, those that proved_cases does not have (K5 to K8, F1 to F3, F10, J15 and T14): the listing of each, what is left in the image
-// and in scratch, and how the image of an accepted one runs.
+// Cases of the compiler by name, those that proved_cases does not have (K5 to K8, F1 to F3, F10, J15, T14 and D7): the listing of each, what is left in the
+// image and in scratch, and how the image of an accepted one runs.
 use case_input::parse_number;
 use case_input::part_end;
 use compiler::Answer;
@@ -8,6 +8,7 @@ use effect::Registers;
 use effect::Switches;
 use libc::STDIN_FILENO;
 use libc::STDOUT_FILENO;
+use listing_lines::LONGEST;
 use machine::Machine;
 use machine::Outcome;
 use machine::Request;
@@ -78,7 +79,7 @@ fn run(image: &mut [u16], entry: u16) {
 // Answers whether an image was emitted.
 fn listing(source: &[u8], image: &mut [u16], scratch: &mut [u16]) -> bool {
     let answer = compiler::compile(source, image, scratch);
-    let mut out = [0u8; 262144];
+    let mut out = [0u8; LONGEST];
     let size = listing_lines::lines(answer, image, &mut out);
     print_start(&out, size);
     let kept = all_are(image, MARK);

@@ -6,10 +6,9 @@ use mathlib.Core.Option.{Option, none, some}
 use native.Mathlib.Omega.{arith}
 use lib.ListN.{length}
 use borrow.Author.Tests.{eq-eqb, ne-eqb}
-use Rattle.prelude.specs.Choice.{whether}
 use Rattle.source.specs.declared.Token.{Token}
 use Rattle.source.specs.Tokens.{tokenAt}
-use Rattle.grammar.specs.Parse.{Got, andThen, is, repeatBy, repeat, separated}
+use Rattle.grammar.specs.Parse.{Got, andThen, repeatBy, repeat, moreSeparated, separated}
 use Rattle.grammar.specs.Parse.Got.{got, failed}
 use Rattle.parser.specs.declared.Part.{Part}
 use Rattle.parser.specs.Answers.{partOf}
@@ -109,15 +108,11 @@ module _ {A : Type 0} {more : A → ℕ → Option (Got A)} {w : Got A} {held : 
     pub turn-next : {n : ℕ} → part ≡ Part.Read n → Turning more w held' n (left - 1)
     turn-next h = let one = came r h in record { done = one .tree; holds = one .holds; same = t .same ∙ repeat-some more (t .done) from left z e ∙ then-got _ (one .is) }
 
--- parts with a separator between them
-abbrev pub onceSeparated : {A : Type 0} → List ℕ → ℕ → (A → ℕ → Got A) → A → ℕ → Option (Got A)
-onceSeparated source separator more done n = let t = tokenAt source n in whether (is separator t) (λ _. some (more done (t .next))) (λ _. none)
-
 -- a list w that has come to another part, after what is done so far, which the next part may be read by
 pub record Sequel {A B : Type 0} (source : List ℕ) (separator : ℕ) (more : B → ℕ → Got A) (sofar : A → B) (w : Got A) (held : B → Type 0) (from left : ℕ) : Type 0 where
   pub done : B
   pub holds : held done
-  pub same : w ≡ andThen (more done from) (λ one next. repeatBy (onceSeparated source separator (λ a. more (sofar a))) left one next)
+  pub same : w ≡ andThen (more done from) (λ one next. repeatBy (moreSeparated source separator (λ a. more (sofar a))) left one next)
 
 -- a list whose first part is read as the others are
 abbrev pub Listing : {A : Type 0} → List ℕ → ℕ → (A → ℕ → Got A) → Got A → (A → Type 0) → ℕ → ℕ → Type 0
@@ -136,12 +131,12 @@ module _ {A B : Type 0} {source : List ℕ} {separator : ℕ} {more : B → ℕ 
 
   module _ {n : ℕ} (e : part ≡ Part.Read n) where
     pub list-zero : left ≡ 0 → Reads held' kept part w
-    list-zero z = let one = came r e in read (l .same ∙ then-got _ (one .is) ∙ repeat-zero (onceSeparated source separator (λ a. more (sofar a))) (one .tree) n z) e (one .holds)
+    list-zero z = let one = came r e in read (l .same ∙ then-got _ (one .is) ∙ repeat-zero (moreSeparated source separator (λ a. more (sofar a))) (one .tree) n z) e (one .holds)
 
     module _ {t : Token} (i : t ≡ tokenAt source n) where
       pub list-last : (t .kind ≡ separator → ⊥) → Reads held' kept part w
       list-last k =
-          let one = came r e in read (l .same ∙ then-got _ (one .is) ∙ repeat-none (onceSeparated source separator (λ a. more (sofar a))) (one .tree) n left (rw (← i, ne-eqb _ _ k))) e (one .holds)
+          let one = came r e in read (l .same ∙ then-got _ (one .is) ∙ repeat-none (moreSeparated source separator (λ a. more (sofar a))) (one .tree) n left (rw (← i, ne-eqb _ _ k))) e (one .holds)
 
       pub sequel-next : {held'' : B → Type 0} → ((a : A) → held' a → held'' (sofar a)) → (left ≡ 0 → ⊥) → t .kind ≡ separator → Sequel source separator more sofar w held'' (t .next) (left - 1)
       sequel-next so z k =
@@ -149,7 +144,7 @@ module _ {A B : Type 0} {source : List ℕ} {separator : ℕ} {more : B → ℕ 
           record {
             done = sofar (one .tree);
             holds = so (one .tree) (one .holds);
-            same = l .same ∙ then-got _ (one .is) ∙ repeat-some (onceSeparated source separator (λ a. more (sofar a))) (one .tree) n left z (rw (← i, eq-eqb _ _ k));
+            same = l .same ∙ then-got _ (one .is) ∙ repeat-some (moreSeparated source separator (λ a. more (sofar a))) (one .tree) n left z (rw (← i, eq-eqb _ _ k));
           }
 
 pub list-next : {A : Type 0} {source : List ℕ} {separator : ℕ} {more : A → ℕ → Got A} {w : Got A} {held held' : A → Type 0} {kept : Type 0} {from left n : ℕ} (l : Listing source separator more w held from left)

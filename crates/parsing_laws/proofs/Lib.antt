@@ -1,1 +1,2 @@
 pub mod Parsed
+pub mod Turns

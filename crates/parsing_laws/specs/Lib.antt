@@ -1,3 +1,4 @@
 pub mod Numbered
 pub mod WellFormed
+pub mod Turns
 pub mod Examples

@@ -6,7 +6,7 @@ use mathlib.Core.List.{List, [], _∷_, _++_}
 use lib.ListN.{length, getD}
 use Rattle.tree.specs.Tree.{Id, Array, Operand, Subscript, Cell, Operation, Expr, Term, Cond, Target, Stmt, Stmts, Name, Item, Declaration, Program}
 use Rattle.layout.specs.Allocation.{Allocation, allocated, localWords}
-use Rattle.layout.specs.Limits.{spaceLimit, declarationLimit, mainLimit}
+use Rattle.layout.specs.Limits.{noFailure, spaceLimit, declarationLimit, mainLimit}
 use Rattle.grammar.specs.Parse.Got.{got}
 use Rattle.grammar.specs.Program.{parseProgram}
 use Rattle.layout.specs.Addresses.{globalWords}
@@ -158,12 +158,12 @@ WordsOk vs = All (λ (v : ℕ). v < 65536) vs
 abbrev pub DeclarationOk : Allocation → List Kind → Declaration → Type 0
 DeclarationOk st kinds (Declaration.item name item) = ValueOk item × (st .scope .taken + length (itemKinds item) ≤ globalWords)
 DeclarationOk st kinds (Declaration.array name size checked values) =
-    (st .scope .taken < globalWords) × (size ≤ 8192) × (length values ≤ size) × WordsOk values × (spaceLimit st size ≡ 0)
+    (st .scope .taken < globalWords) × (size ≤ 8192) × (length values ≤ size) × WordsOk values × (spaceLimit st size ≡ noFailure)
 DeclarationOk st kinds (Declaration.procedure name accumulator locals body) =
     (st .scope .taken < globalWords) × LocalsOk locals
     × StmtsBy (StmtOk (record { globals = kinds; own = st .scope .taken; locals = localWords st name locals }) 33) body
-    × (declarationLimit st (Declaration.procedure name accumulator locals body) ≡ 0)
-DeclarationOk st kinds Declaration.nextSector = declarationLimit st Declaration.nextSector ≡ 0
+    × (declarationLimit st (Declaration.procedure name accumulator locals body) ≡ noFailure)
+DeclarationOk st kinds Declaration.nextSector = declarationLimit st Declaration.nextSector ≡ noFailure
 
 pub data DeclarationsOk : List Declaration → Type 0 where
   none : DeclarationsOk []
@@ -180,7 +180,7 @@ pub record WellFormed (p : Program) : Type 0 where
   pub declarations : DeclarationsOk (p .declarations)
   pub flags : All (Flagged (p .checked)) (p .declarations)
   pub main : StmtsBy (StmtOk (record { globals = kindsOf (p .declarations); own = 0; locals = 0 }) 33) (p .main)
-  pub fits : mainLimit (allocated (p .declarations)) (p .main) ≡ 0
+  pub fits : mainLimit (allocated (p .declarations)) (p .main) ≡ noFailure
 
 abbrev pub AcceptedWellFormed : Type 0
 AcceptedWellFormed = (source : List ℕ) (p : Program) (n : ℕ) → parseProgram source ≡ got p n → WellFormed p

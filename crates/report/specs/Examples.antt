@@ -193,11 +193,14 @@ one-step : shown ".BEGIN .END" 1 off ≡ bytes "halted after 1 step\nregisters: 
 unfolding computed
 one-step = refl
 
--- the third switch is set, and no other
+-- the second and the fourth switch set, then the third and the fourth: no two of them can be exchanged
 abbrev sensing : String
-sensing = ".BEGIN .INTEGER A, B; .WHEN .SENSE3 .THEN A = 1; .WHEN .SENSE2 .THEN B = 1 .END"
+sensing = ".BEGIN .INTEGER A, B, C, D; .WHEN .SENSE1 .THEN A = 1; .WHEN .SENSE2 .THEN B = 1; .WHEN .SENSE3 .THEN C = 1; .WHEN .SENSE4 .THEN D = 1 .END"
 
-switched : shown sensing 1 (keys false false true false) ≡ bytes "halted after 6 steps\nregisters: A = 1, B = 0, C = 0, X = 0\nA = 1\nB = 0\n"
+switched :
+    map (shown sensing 1) (keys false true false true ∷ keys false false true true ∷ [])
+    ≡ bytes "halted after 11 steps\nregisters: A = 1, B = 0, C = 0, X = 0\nA = 0\nB = 1\nC = 0\nD = 1\n" ∷
+    bytes "halted after 11 steps\nregisters: A = 1, B = 0, C = 0, X = 0\nA = 0\nB = 0\nC = 1\nD = 1\n" ∷ []
 unfolding computed
 switched = refl
 

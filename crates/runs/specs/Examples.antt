@@ -92,7 +92,7 @@ on-one-record =
 
 -- ---- Lists of runs on one state (R10)
 
--- a budget that is refused for its cooperative is not granted
-granted : runsDef (turn 16 9 ∷ turn 1 2 ∷ turn 15 1 ∷ []) (at 5) .granted ≡ 3
+-- a budget that is refused, for its cooperative or because it is too large, is not granted; one that is not used up, or not at all by a halted state, is granted in full
+granted : let t = runsDef (turn 16 9 ∷ turn 1 1000001 ∷ turn 1 2 ∷ turn 15 9 ∷ turn 0 4 ∷ []) (at 5) in t .granted ∷ t .work .steps ∷ [] ≡ 15 ∷ 4 ∷ []
 unfolding runsDef runDef runFrom stepDef decodeDef shiftOf genericOf findWord generics memoryOf genericDef unaryOf skipsOf
 granted = refl

@@ -3,4 +3,4 @@ pub mod Theorem
 pub mod Checked
 pub mod Loading
 pub mod Samples
-pub mod ForTurns
+pub mod MeaningLaws

@@ -1,20 +1,21 @@
 -- Demand 3: what every list of runs of a loaded machine shows of the meaning. Each field cites the clause of docs/DEMANDS.md that it sets down.
 use Prim.Native.Nat.{ℕ, suc, _+_, _≤_, _<_}
 use mathlib.Core.Path.{_≡_}
-use mathlib.Core.Bool.{true, false}
+use mathlib.Core.Bool.{true, false, cond}
 use mathlib.Core.List.{List, List·Memᴰ}
 use lib.ListN.{length, getD}
 use Rattle.machine.specs.declared.Machine.{Machine}
 use Rattle.machine.specs.State as machine
 use Rattle.runs.specs.Runs.{Total, Comes}
-use Rattle.tree.specs.Tree.{CellId, Program}
+use Rattle.tree.specs.Tree.{CellId, Array, Program}
 use Rattle.layout.specs.Map.{Role, mapAt, finished, Home}
 use Rattle.compilation.specs.Compile.{Compiled, Result, compileDef}
 use Rattle.semantics.specs.Trace.{State, Trace}
 use Rattle.semantics.specs.Acts.{xCell, index, stopSteps}
 use Rattle.semantics.specs.Meaning.{meaning}
-use Rattle.tree.specs.Variables.{variablesOf, constantsOf}
-use Rattle.layout.specs.Addresses.{memoryWords, savedWord}
+use Rattle.tree.specs.Variables.{variablesOf, constantsOf, Declares, arraysOf, Elements}
+use Rattle.layout.specs.Addresses.{memoryWords, firstGlobal, savedWord}
+use Rattle.memory_map.specs.Laid.{ArrayWord, Through}
 
 -- ---- A loaded machine
 
@@ -138,6 +139,16 @@ pub data ListEnds (p : Program) (σ : State) (t : Total) : Type 0 where
 abbrev pub Inside : Program → State → Type 0
 Inside p σ = (f : ℕ) (τ : State) → Breaks τ (meaning f p σ) → p .checked ≡ true
 
+-- X leaves an array in τ, with P at an address: what comes next there, behind the ten words of a test if subscripts are tested, goes through the word of an array (which has a tag, as no
+-- procedure's word has), and the element of that array that X names is no variable (M9, W19, demand 3j)
+pub record Leaves (p : Program) (τ : State) (at : ℕ) : Type 0 where
+  pub array : Array
+  pub word : ArrayWord (mapAt p) array (firstGlobal + array .number)
+  pub behind : ℕ
+  pub tested : behind ≡ cond (p .checked) (10 + at) at
+  pub through : Through (mapAt p) (firstGlobal + array .number) behind
+  pub outside : List·Memᴰ (CellId.element (array .number) (index τ)) (variablesOf p) → ⊥
+
 -- THE STATEMENT, of every list of runs from there: `comes t` says that one of them comes to t (demand 3e)
 pub record Agrees (p : Program) (σ : State) (comes : Total → Type 0) : Type 0 where
   -- there is one meaning: more fuel only extends what less fuel shows (demand 3b)
@@ -146,12 +157,16 @@ pub record Agrees (p : Program) (σ : State) (comes : Total → Type 0) : Type 0
   pub complete : (f : ℕ) (τ : State) → RunsOut τ (meaning f p σ) → f ≤ τ .steps
   -- the numbers of steps are the meaning's own, in which no list has a part, and never fall (demand 3b, 3d)
   pub rising : (f : ℕ) → Rising 0 (meaning f p σ)
-  -- every variable that is declared has one home, the word where the memory is said to show it (demand 3g)
+  -- every variable that is declared has one home, the word where the memory is said to show it (demand 3g),
   pub homes : (i : CellId) → List·Memᴰ i (variablesOf p) → Home p i
+  -- and no word is said to show anything but such a variable, or a named constant with its value (demand 3g)
+  pub cells : (k : ℕ) (i : CellId) (v : ℕ) → mapAt p k ≡ Role.cell i v → Declares p i v
+  -- the subscripts of an array are those words whose elements are variables (M9, demand 3j)
+  pub elements : (a : Array) → List·Memᴰ a (arraysOf p) → Elements p a
   -- granted just the number of an observation, a list makes just those steps and shows what is observed (demand 3f, 3g)
   pub observed : (f : ℕ) (τ : State) → Observes τ (meaning f p σ) → (t : Total) → comes t → t .granted ≡ τ .steps → Meets p τ t
-  -- where the meaning breaks off, X is loaded and the machine still runs (demand 3j),
-  pub broken : (f : ℕ) (τ : State) → Breaks τ (meaning f p σ) → (t : Total) → comes t → t .granted ≡ τ .steps → Meets p τ t
+  -- where the meaning breaks off, the machine shows its state, X with the rest, and still runs; and X leaves an array there (M9, demand 3j),
+  pub broken : (f : ℕ) (τ : State) → Breaks τ (meaning f p σ) → (t : Total) → comes t → t .granted ≡ τ .steps → Meets p τ t × Leaves p τ (t .state .machine .p)
   -- and a list that is granted no more than that number makes every step (demand 3j)
   pub until-broken : (f : ℕ) (τ : State) → Breaks τ (meaning f p σ) → (t : Total) → comes t → t .granted ≤ τ .steps → AllMade t
   -- where the meaning ends, a list that is granted more than its last number halts (demand 3h)

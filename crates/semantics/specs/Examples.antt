@@ -95,6 +95,8 @@ rows =
     (".BEGIN .ARRAY T[2]; T[0] = 5 .END", 0 ∷ [], Ending.broken 2 5 0) ∷
     (".BEGIN .ARRAY T[1]; T[-1] = 5; T[-2] = 6 .END", 0 ∷ 3 ∷ [], Ending.broken 5 6 65534) ∷
     (".BEGIN .ARRAY T[0]; T[-1] = 5 .END", 0 ∷ [], Ending.broken 2 5 65535) ∷
+    -- each subscript by its own array
+    (".BEGIN .ARRAY T[3],U[1]; U[-1] = 5; T[-3] = 6; U[-2] = 7 .END", 0 ∷ 3 ∷ 6 ∷ [], Ending.broken 8 7 65534) ∷
     -- a value read from an array: LDX, LDA*
     (".BEGIN .ARRAY T[2]; T[-1] = 5; @ = .ZERO; @ = T[-1] + T[#] .END", 0 ∷ 3 ∷ 4 ∷ 7 ∷ [], Ending.done 7 10 65535) ∷
     (".BEGIN .ARRAY T[2]; @ = T[5] .END", 0 ∷ [], Ending.broken 1 7 5) ∷

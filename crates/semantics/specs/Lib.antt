@@ -5,3 +5,4 @@ pub mod Agreement
 pub mod CheckedLaws
 pub mod Examples
 pub mod OutsideExamples
+pub mod MeaningLaws

@@ -63,6 +63,13 @@ every-keyword :
 unfolding tokensBy
 every-keyword = refl
 
+-- what is no keyword, each unknown at its point: a letter less or more, though the first six are the same; `SENSE` without a digit right behind it, or with another; a point before a blank (T6)
+no-keywords :
+    tokensBy 99 (bytes ".INTEGE.INTEGERS.SENSE.SENSE0.SENSE 1. BEGIN") 0
+    ≡ (Kinds.unknown, 0, 0) ∷ (Kinds.unknown, 0, 7) ∷ (Kinds.unknown, 0, 16) ∷ (Kinds.unknown, 0, 22) ∷ (Kinds.unknown, 0, 29) ∷ (Kinds.numeral, 1, 36) ∷ (Kinds.unknown, 0, 37) ∷ (Kinds.name, 0, 39) ∷ []
+unfolding tokensBy
+no-keywords = refl
+
 -- every byte that is of the language, of all 256 (T2); a point alone is no token, though it begins some
 every-byte :
     knownOf (from 0 256)
@@ -81,6 +88,19 @@ constants :
     ≡ (Kinds.numeral, 32767, 0) ∷ (Kinds.outOfRange, 0, 6) ∷ (Kinds.numeral, 32768, 12) ∷ (Kinds.outOfRange, 0, 19) ∷ (Kinds.numeral, 0, 26) ∷ (Kinds.numeral, 65535, 29) ∷ (Kinds.outOfRange, 0, 37) ∷ (Kinds.numeral, 7, 45) ∷ []
 unfolding tokensBy
 constants = refl
+
+-- a numeral takes all digits that follow, zeros in front or not, and its number counts (T4, T8)
+long-constants :
+    tokensBy 99 (bytes "'0000177777 '1777777 -0000032768 -327680 327670") 0
+    ≡ (Kinds.numeral, 65535, 0) ∷ (Kinds.outOfRange, 0, 12) ∷ (Kinds.numeral, 32768, 21) ∷ (Kinds.outOfRange, 0, 33) ∷ (Kinds.outOfRange, 0, 41) ∷ []
+unfolding tokensBy
+long-constants = refl
+
+-- the end of the source is a token of no bytes, at the source's length, blanks before it or not: kind, offset, and the offset after it (T13)
+end-of-source :
+    map {B = ℕ × ℕ × ℕ} (λ at. let t = tokenAt (bytes "A \n") at in (t .kind, t .at, t .next)) (1 ∷ 3 ∷ []) ≡ (Kinds.endOfSource, 3, 3) ∷ (Kinds.endOfSource, 3, 3) ∷ []
+unfolding tokensBy
+end-of-source = refl
 
 six-count : nameOf (bytes " ABCDE1234 ") (tokenAt (bytes " ABCDE1234 ") 0) ≡ bytes "ABCDE1"
 unfolding tokensBy nameOf

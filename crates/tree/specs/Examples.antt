@@ -5,7 +5,7 @@ use mathlib.Core.Bool.{Bool, true, false}
 use mathlib.Core.List.{[], _∷_, map}
 use Rattle.tree.specs.Tree.{Id, CellId, Stmt, Stmts, Item, Declaration, Program, isInside, lowest}
 use Rattle.tree.specs.Symbols.{wordsTaken, globalsOf}
-use Rattle.tree.specs.Variables.{itemVariables, itemConstants, localsBy, elementsOf, declaredBy, variablesOf, constantsOf}
+use Rattle.tree.specs.Variables.{itemVariables, itemConstants, localsBy, elementsOf, declaredBy, variablesOf, constantsOf, arraysOf}
 
 -- the subscripts of an array of three are -3, -2 and -1; an array of none has no subscript
 inside-three : map {B = Bool} (isInside (record { number = 0; size = 3; checked = false })) (65532 ∷ 65533 ∷ 65535 ∷ 0 ∷ 3 ∷ []) ≡ false ∷ true ∷ true ∷ false ∷ false ∷ []
@@ -49,3 +49,10 @@ variables = refl
 constants : constantsOf declaring ≡ (CellId.named (Id.global 1), 3) ∷ (CellId.named (Id.local 3 0), 5) ∷ []
 unfolding constantsOf declaredBy localsBy wordsTaken itemConstants
 constants = refl
+
+-- an array has the number that its elements have, and the program's flag
+arrays :
+    arraysOf declaring ∷ arraysOf (record { checked = true; declarations = declaring .declarations; main = declaring .main }) ∷ []
+    ≡ (record { number = 2; size = 2; checked = false } ∷ []) ∷ (record { number = 2; size = 2; checked = true } ∷ []) ∷ []
+unfolding arraysOf declaredBy localsBy wordsTaken
+arrays = refl

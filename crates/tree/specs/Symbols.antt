@@ -105,23 +105,24 @@ asFunction Symbol.unknown = none
 
 -- ---- Declaring names
 
--- whether two levels are one (D14); only one procedure is read at a time
+-- whether two levels of live names are one (D14): the locals of a procedure are alive only while it is read, so two inner levels are always the same
 unfoldable pub sameLevel : Level → Level → Bool
 sameLevel Level.outer Level.outer = true
 sameLevel Level.outer (Level.inner p) = false
 sameLevel (Level.inner p) Level.outer = false
 sameLevel (Level.inner p) (Level.inner q) = true
 
--- what a declaration is read under: the live names, its level, and how many words that level's names have taken
+-- what a declaration is read under: the live names, the level that it is at, and how many words are taken there. NUMBERING: a name that takes a word has for its number how many words were taken at its level before it, so `taken` is the number of the next one.
+-- A procedure takes a word of the globals; its number is also that of the level of its locals, whose own numbers begin at 0 again
 pub record Scope : Type 0 where
   pub names : Names
   pub level : Level
   pub taken : ℕ
 
--- the id of a level's next name
+-- the id of the next name at a level where so many words are taken
 unfoldable pub nextId : Level → ℕ → Id
-nextId Level.outer n = Id.global n
-nextId (Level.inner p) n = Id.local p n
+nextId Level.outer taken = Id.global taken
+nextId (Level.inner p) taken = Id.local p taken
 
 -- what an item's name will stand for (D3, D4)
 unfoldable pub itemSymbol : Scope → Item → Symbol
@@ -148,10 +149,10 @@ globalsOf (Declaration.array name size checked values) = 1
 globalsOf (Declaration.procedure name accumulator locals body) = 1
 globalsOf Declaration.nextSector = 0
 
--- the scope after a name's declaration, with the words that it takes
+-- the scope after a name's declaration, which takes so many words
 unfoldable pub declare : Scope → Name → Symbol → ℕ → Scope
-declare scope name symbol taken =
-    record { names = (name, record { level = scope .level; symbol = symbol }) ∷ scope .names; level = scope .level; taken = scope .taken + taken }
+declare scope name symbol words =
+    record { names = (name, record { level = scope .level; symbol = symbol }) ∷ scope .names; level = scope .level; taken = scope .taken + words }
 
 -- the scope after an item: from there on its name is known (D15)
 unfoldable pub declareItem : Scope → Name × Item → Scope

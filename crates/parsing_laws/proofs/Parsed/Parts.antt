@@ -88,7 +88,7 @@ unfolding failureAt
 unlowered t n e = rw e
 
 -- the source has ended at a token, or not
-by-end : {Q : Type 0} (t : Token) → (Ended t → Q) → ((Ended t → ⊥) → Q) → Q
+pub by-end : {Q : Type 0} (t : Token) → (Ended t → Q) → ((Ended t → ⊥) → Q) → Q
 by-end {Q = Q} t f g =
     choice (λ (b : Bool). Q) (eqb (t .kind) Kinds.endOfSource) true false
     (λ e. f (eqb-true (t .kind) Kinds.endOfSource e)) (λ e. g (eqb-false (t .kind) Kinds.endOfSource e))

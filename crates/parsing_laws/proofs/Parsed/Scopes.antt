@@ -38,6 +38,10 @@ append-extends [] ls n k some e = absurd (some (sym e))
 append-extends (j ∷ ks) ls zero k some e = e
 append-extends (j ∷ ks) ls (suc n) k some e = append-extends ks ls n k some e
 
+-- what is declared by the first of some declarations is declared by all
+pub kinds-extend : (ds es : List Declaration) → Extends (kindsOf ds) (kindsOf (ds ++ es))
+kinds-extend ds es n k some e = ap (λ (l : List Kind). getD l n Kind.none) (kinds-append ds es) ∙ append-extends (kindsOf ds) (kindsOf es) n k some e
+
 abbrev pub outer : List Kind → Context
 outer ks = record { globals = ks; own = 0; locals = 0 }
 

@@ -98,7 +98,7 @@ pub outside-shows : (s : machine.State) → Loaded (compiled outside) start s �
 unfolding compiled
 outside-shows s l t k h =
     let b = outside-breaks in
-    agrees _ outside outside-accepted s l .broken 0 (b .0) (b .1) t k (h ∙ sym (b .2))
+    agrees _ outside outside-accepted s l .broken 0 (b .0) (b .1) t k (h ∙ sym (b .2)) .0
 
 -- ---- With `.CHECKED`
 

@@ -49,7 +49,7 @@ module _ (M : Map) (sound : Sound M) (s₀ : machine.State) (N fuel : ℕ) where
       sim-term : {a b : ℕ} (t : Term) → TermOk x ok t → LaidTerm M ps t a b → (σ : State) (m : List ℕ) → N ≤ σ .steps + fuel → At M sound s₀ κ a σ m
           → Follows M sound s₀ N κ b (σ .steps) (termBy procedures expr t σ)
       unfolding termBy next
-      sim-term (Term.cell c) o (LaidTerm.cell k) σ m l h = sim-read M sound s₀ N load-reads k h
+      sim-term (Term.cell c) o (LaidTerm.cell k) σ m l h = sim-read M sound s₀ N load-reads (λ z. omega arith) k h
       sim-term Term.accumulator o LaidTerm.accumulator σ m l h = stay M sound s₀ N σ m (le-refl _) h
       sim-term Term.zero o (LaidTerm.zero s) σ m l h = moved M sound s₀ N (do-generic M sound s₀ h clear-acts s) (le₁ (σ .steps))
       sim-term (Term.bracket e) o (LaidTerm.bracket k) σ m l h = inner e _ _ o k σ m l h

@@ -9,7 +9,7 @@ use lib.Dec.{eqb}
 use Rattle.word.specs.Arithmetic.{compareOf}
 use Rattle.word.proofs.Bounds.{compare-below}
 use Rattle.effect.specs.Skips.{skipsOf}
-use Rattle.instruction.specs.Opcode.{STA, CAS, IRS, LDX}
+use Rattle.instruction.specs.Opcode.{STA, CAS, IRS, LDX, DIV}
 use Rattle.instruction.specs.Slot.{SPL}
 use Rattle.instruction.specs.declared.Instruction.the-variants.{Generic}
 use Rattle.instruction.proofs.Choice.{cond-when}
@@ -20,8 +20,8 @@ use Rattle.layout.specs.Map.{Role}
 use Rattle.semantics.specs.Trace.{State, Trace, bind, next, ended}
 use Rattle.semantics.specs.Acts.{tick, ticks, xCell, Place, placeOf, valueOf, index, subscripted, passSteps, tested, element, entered, asPlace, reach, operate, storeA, setX, absolute, plainOn, test, jump, counted}
 use Rattle.semantics.specs.Meaning.{unaryOn, unariesOn, operatorOn, operationOn, operationsOn, chosen, orderOf, wordsAfter, related, assigned}
-use Rattle.memory_map.specs.Laid.{Map, Sound, Sits, Refers, ArrayWord, LaidLoad, LaidTest, LaidSubscript, LaidCell, LaidOn, LaidJump, LaidPlain, LaidUnary, LaidUnaries, LaidOperations, LaidControls}
-use Rattle.semantics.proofs.Simulation.Relate.{Links, At, stands, Left, Ok, ok-done, ok-broke, ok-observe, follow}
+use Rattle.memory_map.specs.Laid.{Map, Sound, Sits, Refers, ArrayAt, Through, LaidLoad, LaidTest, LaidSubscript, LaidCell, LaidOn, LaidJump, LaidPlain, LaidUnary, LaidUnaries, LaidOperations, LaidControls}
+use Rattle.semantics.proofs.Simulation.Relate.{Links, At, stands, Left, Out, Ok, ok-done, ok-broke, ok-observe, follow}
 use Rattle.semantics.proofs.Simulation.Tests.{untested, ticked, pass, stop}
 use Rattle.semantics.proofs.Simulation.Instructions as instructions
 use Rattle.semantics.proofs.Simulation.Instructions.{Located, Reads, Skips, do-generic, do-shift, do-test, do-read, do-store, do-load-x, do-jump, do-compare, do-count, located-direct, located-element}
@@ -63,48 +63,66 @@ module _ (M : Map) (sound : Sound M) (s₀ : machine.State) (N : ℕ) where
   abbrev Enters : Links → ℕ → ℕ → ℕ → Trace CellId → Type 0
   Enters κ b k low t = Ok M sound s₀ N (λ j. Found κ b true k (Place.held j)) low t
 
-  named : {κ : Links} {r : Array} {a b k low : ℕ} {σ : State} {m : List ℕ} → low ≤ σ .steps → LaidTest M r a b → ArrayWord M r k → At M sound s₀ κ a σ m → Enters κ b k low (element r σ)
+  named : {κ : Links} {r : Array} {a b k low : ℕ} {σ : State} {m : List ℕ} → low ≤ σ .steps → LaidTest M r a b → ArrayAt M r k → Through M k b → At M sound s₀ κ a σ m → Enters κ b k low (element r σ)
   unfolding element
-  named {κ} {r} {a} {b} {k} {low} {σ} {m} l t w h = cond-when (Enters κ b k low) (isInside r (index σ)) _ _ (inside t) (outside t)
+  named {κ} {r} {a} {b} {k} {low} {σ} {m} l t placed next h = cond-when (Enters κ b k low) (isInside r (index σ)) _ _ (inside t) (outside t)
     where
       -- the memory and the state behind the test, where X is the element's
       found : {b : ℕ} {τ : State} {n : List ℕ} → low ≤ τ .steps → τ .cells ≡ σ .cells → tested r σ ≡ τ → At M sound s₀ κ b τ n → isInside r (index σ) ≡ true
           → Enters κ b k low (Trace.done (CellId.element (r .number) (index σ)) (tested r σ))
       found {b} {τ} {n} u same is g i =
           let x : index σ ≡ index τ = ap (λ (c : CellId → ℕ). c xCell % 65536) (sym same) in
-          rw (is, x) (ok-done n u (g, located-element M sound s₀ g w (rw (← x) i)))
+          rw (is, x) (ok-done n u (g, located-element M sound s₀ g (placed .word) (rw (← x) i)))
 
       inside : {b : ℕ} → LaidTest M r a b → isInside r (index σ) ≡ true → Enters κ b k low (Trace.done (CellId.element (r .number) (index σ)) (tested r σ))
       inside (LaidTest.none e free) i = found l refl (untested r σ e) h i
       inside (LaidTest.words e here t) i =
           let n = passSteps r (index σ) in
-          found (le-trans l (ticks-up n σ)) (ticks-cells n σ) (ticked r σ e) (pass M sound s₀ h here (w .small) t i) i
+          found (le-trans l (ticks-up n σ)) (ticks-cells n σ) (ticked r σ e) (pass M sound s₀ h here (placed .word .small) t i) i
+
+      out : isInside r (index σ) ≡ false → Out M sound s₀ σ a
+      out i = record { array = r; word = k; placed = placed; behind = b; test = t; through = next; outside = i }
 
       outside : {b : ℕ} → LaidTest M r a b → isInside r (index σ) ≡ false → Enters κ b k low (Trace.broke σ)
-      outside (LaidTest.none e free) i = ok-broke l (stands M sound s₀ h) (Left.untested free)
-      outside (LaidTest.words e here t) i = ok-broke l (stands M sound s₀ h) (Left.tested (stop M sound s₀ h here (w .small) t i))
+      outside (LaidTest.none e free) i = ok-broke l (stands M sound s₀ h) (Left.untested free) (out i)
+      outside (LaidTest.words e here u) i = ok-broke l (stands M sound s₀ h) (Left.tested (stop M sound s₀ h here (placed .word .small) u i)) (out i)
 
-  sim-entered : {κ : Links} {r : Array} {s : Subscript} {a b k : ℕ} {σ : State} {m : List ℕ} → LaidSubscript M r s a b → ArrayWord M r k → At M sound s₀ κ a σ m
+  sim-entered : {κ : Links} {r : Array} {s : Subscript} {a b k : ℕ} {σ : State} {m : List ℕ} → LaidSubscript M r s a b → ArrayAt M r k → Through M k b → At M sound s₀ κ a σ m
       → Enters κ b k (σ .steps) (entered r s σ)
   unfolding entered subscripted
-  sim-entered {σ = σ} (LaidSubscript.both (LaidLoad.by r d) t) w h = named (le₁ (σ .steps)) t w (do-load-x M sound s₀ h r (located-direct M sound s₀ h d))
-  sim-entered (LaidSubscript.both LaidLoad.hash t) w h = named (le-refl _) t w h
+  sim-entered {σ = σ} (LaidSubscript.both (LaidLoad.by r d) t) w next h = named (le₁ (σ .steps)) t w next (do-load-x M sound s₀ h r (located-direct M sound s₀ h d))
+  sim-entered (LaidSubscript.both LaidLoad.hash t) w next h = named (le-refl _) t w next h
 
-  sim-cell : {κ : Links} {c : Cell} {a b k : ℕ} {indirect : Bool} {σ : State} {m : List ℕ} → LaidCell M c a b indirect k → At M sound s₀ κ a σ m
+  sim-cell : {κ : Links} {c : Cell} {a b k : ℕ} {indirect : Bool} {σ : State} {m : List ℕ} → LaidCell M c a b indirect k → (indirect ≡ true → Through M k b) → At M sound s₀ κ a σ m
       → Ok M sound s₀ N (Found κ b indirect k) (σ .steps) (reach c σ)
   unfolding reach asPlace
-  sim-cell {m = m} (LaidCell.plain d) h = ok-done m (le-refl _) (h, located-direct M sound s₀ h d)
-  sim-cell (LaidCell.item s w) h = follow M sound s₀ (sim-entered s w h) (λ j σ₁ m₁ l q. ok-done m₁ (le-refl _) q)
+  sim-cell {m = m} (LaidCell.plain d) next h = ok-done m (le-refl _) (h, located-direct M sound s₀ h d)
+  sim-cell (LaidCell.item s w) next h = follow M sound s₀ (sim-entered s w (next refl) h) (λ j σ₁ m₁ l q. ok-done m₁ (le-refl _) q)
 
-  pub sim-read : {κ : Links} {code a b : ℕ} {c : Cell} {σ : State} {m : List ℕ} → Reads code → LaidOn M code c a b → At M sound s₀ κ a σ m
+  -- an instruction on a cell goes through an array's word, if its operand is an element
+  straight : {b k opcode : ℕ} {indirect : Bool} → (opcode ≡ DIV → ⊥) → Refers M b opcode indirect k → indirect ≡ true → Through M k b
+  straight {b} {k} {opcode} other r e = Through.instruction other (subst (λ (i : Bool). Refers M b opcode i k) e r)
+
+  -- and so does an operator's, behind what stands before it
+  operating : {a n k : ℕ} {indirect : Bool} (o : Operator) → LaidPlain M (operatorForm o .before) a n → Refers M n (operatorForm o .opcode) indirect k → indirect ≡ true → Through M k a
+  unfolding operatorForm
+  operating Operator.add LaidPlain.none r e = straight (λ z. omega arith) r e
+  operating Operator.subtract LaidPlain.none r e = straight (λ z. omega arith) r e
+  operating Operator.and LaidPlain.none r e = straight (λ z. omega arith) r e
+  operating Operator.nev LaidPlain.none r e = straight (λ z. omega arith) r e
+  operating Operator.multiply LaidPlain.none r e = straight (λ z. omega arith) r e
+  operating {a = a} {k = k} Operator.divide (LaidPlain.shift s LaidPlain.none) r e = Through.division s (subst (λ (i : Bool). Refers M (suc a) DIV i k) e r)
+  operating {a = a} {k = k} Operator.modulo (LaidPlain.shift s LaidPlain.none) r e = Through.division s (subst (λ (i : Bool). Refers M (suc a) DIV i k) e r)
+
+  pub sim-read : {κ : Links} {code a b : ℕ} {c : Cell} {σ : State} {m : List ℕ} → Reads code → (code ≡ DIV → ⊥) → LaidOn M code c a b → At M sound s₀ κ a σ m
       → Follows κ b (σ .steps) (bind (reach c σ) (operate code))
   unfolding operate
-  sim-read reads (LaidOn.on c r) h = follow M sound s₀ (sim-cell c h) (λ l σ m le q. ok-done m (le₁ (σ .steps)) (do-read M sound s₀ (q .0) reads r (q .1)))
+  sim-read reads other (LaidOn.on c r) h = follow M sound s₀ (sim-cell c (straight other r) h) (λ l σ m le q. ok-done m (le₁ (σ .steps)) (do-read M sound s₀ (q .0) reads r (q .1)))
 
   pub sim-set-x : {κ : Links} {c : Cell} {a b : ℕ} {σ : State} {m : List ℕ} → LaidOn M LDX c a b → At M sound s₀ κ a σ m
       → Follows κ b (σ .steps) (bind (reach c σ) setX)
   unfolding setX
-  sim-set-x (LaidOn.on c r) h = follow M sound s₀ (sim-cell c h) (λ l σ m le q. ok-done _ (le₁ (σ .steps)) (do-load-x M sound s₀ (q .0) r (q .1)))
+  sim-set-x (LaidOn.on c r) h = follow M sound s₀ (sim-cell c (straight (λ z. omega arith) r) h) (λ l σ m le q. ok-done _ (le₁ (σ .steps)) (do-load-x M sound s₀ (q .0) r (q .1)))
 
   pub sim-assigned : {κ : Links} {a b : ℕ} {σ : State} {m : List ℕ} (t : Target) → LaidOn M STA (targetCell t) a b → At M sound s₀ κ a σ m
       → Follows κ b (σ .steps) (assigned t σ)
@@ -112,7 +130,7 @@ module _ (M : Map) (sound : Sound M) (s₀ : machine.State) (N : ℕ) where
   sim-assigned {σ = σ} (Target.integer i) (LaidOn.on (LaidCell.plain d) r) h =
       ok-done _ (le₁ (σ .steps)) (do-store M sound s₀ h r (located-direct M sound s₀ h d))
   sim-assigned (Target.item a s) (LaidOn.on (LaidCell.item c w) r) h =
-      follow M sound s₀ (sim-entered c w h) (λ j σ₁ m₁ le q. ok-done _ (le₁ (σ₁ .steps)) (do-store M sound s₀ (q .0) r (q .1)))
+      follow M sound s₀ (sim-entered c w (Through.instruction (λ z. omega arith) r) h) (λ j σ₁ m₁ le q. ok-done _ (le₁ (σ₁ .steps)) (do-store M sound s₀ (q .0) r (q .1)))
 
   -- ---- Unary words and operations
 
@@ -159,7 +177,7 @@ module _ (M : Map) (sound : Sound M) (s₀ : machine.State) (N : ℕ) where
   unfolding operationsOn operationOn next
   sim-operations {m = m} LaidOperations.none h = ok-done m (le-refl _) h
   sim-operations (LaidOperations.binary {o = o} c before r behind os) h =
-      follow M sound s₀ (follow M sound s₀ (sim-cell c h) (λ l σ₁ m₁ le q. sim-operator o before r behind (q .0) (q .1))) (λ u σ₂ m₂ le h₂. sim-operations os h₂)
+      follow M sound s₀ (follow M sound s₀ (sim-cell c (operating o before r) h) (λ l σ₁ m₁ le q. sim-operator o before r behind (q .0) (q .1))) (λ u σ₂ m₂ le h₂. sim-operations os h₂)
   sim-operations (LaidOperations.shift s os) h =
       let x = sim-plain s tt h in follow M sound s₀ (moved (x .0) (x .1)) (λ u σ₁ m₁ l h₁. sim-operations os h₁)
 
@@ -187,7 +205,7 @@ module _ (M : Map) (sound : Sound M) (s₀ : machine.State) (N : ℕ) where
 
   pub sim-relation : {κ : Links} {a n b z : ℕ} {c : Cell} {σ : State} {m : List ℕ} (r : Relation) → LaidOn M CAS c a n → LaidControls M z (controls r) n b
       → At M sound s₀ κ a σ m → Forks κ b z (σ .steps) (bind (reach c σ) (related r))
-  sim-relation r (LaidOn.on c s) k h = follow M sound s₀ (sim-cell c h) (λ l σ₁ m₁ le q. sim-related r s k (q .0) (q .1))
+  sim-relation r (LaidOn.on c s) k h = follow M sound s₀ (sim-cell c (straight (λ z. omega arith) s) h) (λ l σ₁ m₁ le q. sim-related r s k (q .0) (q .1))
 
   -- a test, and what follows on either way
   pub branch : {κ : Links} {p z b low : ℕ} {t : Trace Bool} {f g : State → Trace (Unit {0})} → Forks κ p z low t

@@ -28,12 +28,12 @@ use Rattle.machine.specs.Step.{made, perform}
 use Rattle.machine.proofs.Good.{step-of}
 use Rattle.runs.specs.Steps.{Steps, none, one}
 use Rattle.runs.proofs.Iteration.{steps-join}
-use Rattle.tree.specs.Tree.{CellId}
+use Rattle.tree.specs.Tree.{CellId, Array, isInside}
 use Rattle.layout.specs.Map.{Role, haltWord}
 use Rattle.layout.specs.Addresses.{savedWord}
 use Rattle.semantics.specs.Trace.{State, Trace, bind}
 use Rattle.semantics.specs.Acts.{updated, xCell, index, stopSteps}
-use Rattle.memory_map.specs.Laid.{Map, Sound, Sits, Stops}
+use Rattle.memory_map.specs.Laid.{Map, Sound, Sits, Stops, ArrayAt, Through, LaidTest}
 use Rattle.semantics.proofs.Simulation.Cells.{updated-same, updated-other}
 
 -- ---- Links
@@ -194,24 +194,34 @@ module _ (M : Map) (sound : Sound M) (s₀ : machine.State) where
     untested : M savedWord ≡ Role.free → Left σ
     tested : Stopping σ → Left σ
 
+  -- what comes next at an address goes through the word of an array, behind its test if it is tested, and X is none of its subscripts
+  pub record Out (σ : State) (at : ℕ) : Type 0 where
+    pub array : Array
+    pub word : ℕ
+    pub placed : ArrayAt M array word
+    pub behind : ℕ
+    pub test : LaidTest M array at behind
+    pub through : Through M word behind
+    pub outside : isInside array (index σ) ≡ false
+
   -- The machine comes to every state that the trace shows, their numbers never fall from `low` on, and the end has Q.
   -- A trace that ran out of fuel has made N steps at least.
   pub data Ok {A : Type 0} (N : ℕ) (Q : A → State → List ℕ → Type 0) : ℕ → Trace A → Type 0 where
     ok-done : {low : ℕ} {a : A} {σ : State} (m : List ℕ) → low ≤ σ .steps → Q a σ m → Ok N Q low (Trace.done a σ)
-    ok-broke : {low : ℕ} {σ : State} → low ≤ σ .steps → Stands σ → Left σ → Ok N Q low (Trace.broke σ)
+    ok-broke : {low : ℕ} {σ : State} → low ≤ σ .steps → (h : Stands σ) → Left σ → Out σ (h .p) → Ok N Q low (Trace.broke σ)
     ok-out : {low : ℕ} {σ : State} → low ≤ σ .steps → N ≤ σ .steps → Stands σ → Ok N Q low (Trace.out σ)
     ok-observe : {low : ℕ} {σ : State} {t : Trace A} → low ≤ σ .steps → Stands σ → Ok N Q (σ .steps) t → Ok N Q low (Trace.observe σ t)
 
   pub lower : {A : Type 0} {N : ℕ} {Q : A → State → List ℕ → Type 0} {low high : ℕ} {t : Trace A} → low ≤ high → Ok N Q high t → Ok N Q low t
   lower l (ok-done m h q) = ok-done m (le-trans l h) q
-  lower l (ok-broke h s b) = ok-broke (le-trans l h) s b
+  lower l (ok-broke h s b o) = ok-broke (le-trans l h) s b o
   lower l (ok-out h n s) = ok-out (le-trans l h) n s
   lower l (ok-observe h s k) = ok-observe (le-trans l h) s k
 
   pub relax : {A : Type 0} {N : ℕ} {Q R : A → State → List ℕ → Type 0} {low : ℕ} {t : Trace A}
       → ((a : A) (σ : State) (m : List ℕ) → Q a σ m → R a σ m) → Ok N Q low t → Ok N R low t
   relax k (ok-done {a = a} {σ = σ} m h q) = ok-done m h (k a σ m q)
-  relax k (ok-broke h s b) = ok-broke h s b
+  relax k (ok-broke h s b o) = ok-broke h s b o
   relax k (ok-out h n s) = ok-out h n s
   relax k (ok-observe h s o) = ok-observe h s (relax k o)
 
@@ -220,6 +230,6 @@ module _ (M : Map) (sound : Sound M) (s₀ : machine.State) where
       → Ok N Q low t → ((a : A) (σ : State) (m : List ℕ) → low ≤ σ .steps → Q a σ m → Ok N R (σ .steps) (g a σ)) → Ok N R low (bind t g)
   unfolding bind
   follow (ok-done {a = a} {σ = σ} m h q) k = lower h (k a σ m h q)
-  follow (ok-broke h s b) k = ok-broke h s b
+  follow (ok-broke h s b o) k = ok-broke h s b o
   follow (ok-out h n s) k = ok-out h n s
   follow (ok-observe h s o) k = ok-observe h s (follow o (λ a σ m l q. k a σ m (le-trans h l) q))

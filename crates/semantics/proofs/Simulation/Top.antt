@@ -1,7 +1,7 @@
 -- Demand 3 for every program that stands in a memory map: it agrees with its meaning under every list of runs.
-use Prim.Native.Nat.{ℕ, suc, _≤_, _<_}
+use Prim.Native.Nat.{ℕ, suc, _+_, _≤_, _<_}
 use mathlib.Core.Path.{_≡_, refl, sym, ap, subst, _∙_}
-use mathlib.Core.Bool.{true, false}
+use mathlib.Core.Bool.{Bool, true, false, cond}
 use mathlib.Core.List.{List, List·Memᴰ}
 use native.Mathlib.Nat.{le-refl}
 use native.Mathlib.Omega.{arith}
@@ -12,19 +12,20 @@ use Rattle.machine.specs.State as machine
 use Rattle.runs.specs.Steps.{Steps}
 use Rattle.runs.specs.Runs.{Total, Comes}
 use Rattle.runs.proofs.Lists as runs
-use Rattle.tree.specs.Tree.{CellId}
+use Rattle.tree.specs.Tree.{CellId, Array}
 use Rattle.layout.specs.Words.{after, mainWords}
 use Rattle.layout.specs.Map.{Role, initial, savedRole, finished, mapOf, imageOf, Home, mapAt}
 use Rattle.layout.specs.Addresses.{savedWord}
 use Rattle.compilation.specs.Compile.{Compiled}
 use Rattle.semantics.specs.Trace.{State, Trace}
+use Rattle.semantics.specs.Acts.{index}
 use Rattle.semantics.specs.Meaning.{meaning}
-use Rattle.tree.specs.Variables.{variablesOf}
-use Rattle.semantics.specs.Agreement.{Loaded, Holds, Shows, Observes, Ends, Breaks, RunsOut, Rising, Meets, AllMade, HaltsAfter, stopAt, StopsAfter, ListEnds, Inside, Agrees}
+use Rattle.tree.specs.Variables.{variablesOf, Declares, arraysOf, Elements}
+use Rattle.semantics.specs.Agreement.{Loaded, Holds, Shows, Observes, Ends, Breaks, RunsOut, Rising, Meets, AllMade, HaltsAfter, stopAt, StopsAfter, ListEnds, Inside, Leaves, Agrees}
 use Rattle.parsing_laws.specs.WellFormed.{WellFormed}
-use Rattle.memory_map.specs.Laid.{LaidProgram}
+use Rattle.memory_map.specs.Laid.{ArrayWord, Through, LaidTest, LaidProgram}
 use Rattle.memory_map.specs.KnownProcedures.{knownOf}
-use Rattle.semantics.proofs.Simulation.Relate.{Pending, Links, Serves, machineOf, At, peek, Stands, stands, Stopping, Left, ok-done, ok-broke, ok-out, ok-observe}
+use Rattle.semantics.proofs.Simulation.Relate.{Pending, Links, Serves, machineOf, At, peek, Stands, stands, Stopping, Left, Out, ok-done, ok-broke, ok-out, ok-observe}
 use Rattle.semantics.proofs.Simulation.Instructions.{do-halt, do-stop}
 use Rattle.semantics.proofs.Simulation.Parts.{Follows}
 use Rattle.semantics.proofs.Simulation.Statements.{sim-outermost}
@@ -50,7 +51,8 @@ outcome (Trace.observe m t) = more (outcome t)
 
 module _ (c : Compiled) (is : c .image ≡ imageOf (c .program)) (well : WellFormed (c .program))
     (laid : LaidProgram (mapAt (c .program)) (knownOf (c .program .declarations)) (c .program .main) (c .entry))
-    (homes : (i : CellId) → List·Memᴰ i (variablesOf (c .program)) → Home (c .program) i) (saved-at : mapAt (c .program) savedWord ≡ savedRole (c .program .checked))
+    (homes : (i : CellId) → List·Memᴰ i (variablesOf (c .program)) → Home (c .program) i) (cells : (k : ℕ) (i : CellId) (v : ℕ) → mapAt (c .program) k ≡ Role.cell i v → Declares (c .program) i v)
+    (elements : (a : Array) → List·Memᴰ a (arraysOf (c .program)) → Elements (c .program) a) (saved-at : mapAt (c .program) savedWord ≡ savedRole (c .program .checked))
     (at-end : after (mainWords (c .program .main) (c .entry)) (c .entry) ≡ finished (c .program) .next)
     (σ : State) (s : machine.State) (loaded : Loaded c σ s) where
   -- ---- The meaning is followed
@@ -103,7 +105,7 @@ module _ (c : Compiled) (is : c .image ≡ imageOf (c .program)) (well : WellFor
   module _ {N : ℕ} where
     rising-of : {low : ℕ} {t : Trace (Unit {0})} → Followed N low t → Rising low t
     rising-of (ok-done m l q) = l
-    rising-of (ok-broke l h b) = l
+    rising-of (ok-broke l h b o) = l
     rising-of (ok-out l n h) = l
     rising-of (ok-observe l h k) = (l, rising-of k)
 
@@ -112,8 +114,13 @@ module _ (c : Compiled) (is : c .image ≡ imageOf (c .program)) (well : WellFor
     observed-of (ok-observe l h k) (Observes.later o) = observed-of k o
 
     broken-of : {low : ℕ} {t : Trace (Unit {0})} {τ : State} → Followed N low t → Breaks τ t → Standing τ × Left (mapAt (c .program)) (laid .sound) s τ
-    broken-of (ok-broke l h b) Breaks.here = (h, b)
+    broken-of (ok-broke l h b o) Breaks.here = (h, b)
     broken-of (ok-observe l h k) (Breaks.later o) = broken-of k o
+
+    out-at : {low : ℕ} {t : Trace (Unit {0})} {τ : State} (f : Followed N low t) (b : Breaks τ t) → Out (mapAt (c .program)) (laid .sound) s τ (broken-of f b .0 .p)
+    unfolding broken-of
+    out-at (ok-broke l h b o) Breaks.here = o
+    out-at (ok-observe l h k) (Breaks.later o) = out-at k o
 
     out-of : {low : ℕ} {t : Trace (Unit {0})} {τ : State} → Followed N low t → RunsOut τ t → (N ≤ τ .steps) × Standing τ
     out-of (ok-out l n h) RunsOut.here = (n, h)
@@ -140,6 +147,33 @@ module _ (c : Compiled) (is : c .image ≡ imageOf (c .program)) (well : WellFor
         running = ap (λ (u : machine.State). u .machine .halted) (r .0);
         shows = rw (r .0) (shows (h .at) (machineOf τ (h .p)) refl);
       }
+
+  -- a test takes ten words, which a program has or has not
+  test-words : {r : Array} {at behind : ℕ} (checked : Bool) → mapAt (c .program) savedWord ≡ savedRole checked → LaidTest (mapAt (c .program)) r at behind → behind ≡ cond checked (10 + at) at
+  unfolding savedRole
+  test-words true e (LaidTest.none f free) = let z : Role.saved ≡ Role.free = sym e ∙ free in let y : _≡_ {A = ℕ} 0 1 = cc in absurd (omega arith)
+  test-words false e (LaidTest.none f free) = refl
+  test-words true e (LaidTest.words f here t) = omega arith
+  test-words false e (LaidTest.words f here t) = let z : Role.free ≡ Role.saved = sym e ∙ here in let y : _≡_ {A = ℕ} 0 1 = cc in absurd (omega arith)
+
+  apart : {b : Bool} → b ≡ true → b ≡ false → ⊥
+  apart e f = let z : _≡_ {A = ℕ} 0 1 = cc in omega arith
+
+  left : (τ : State) (at : ℕ) → Out (mapAt (c .program)) (laid .sound) s τ at → Leaves (c .program) τ at
+  left τ at o = record {
+    array = o .array;
+    word = subst (λ (k : ℕ). ArrayWord (mapAt (c .program)) (o .array) k) (o .placed .place) (o .placed .word);
+    behind = o .behind;
+    tested = test-words (c .program .checked) saved-at (o .test);
+    through = subst (λ (k : ℕ). Through (mapAt (c .program)) k (o .behind)) (o .placed .place) (o .through);
+    outside = λ m. let h = homes (CellId.element (o .array .number) (index τ)) m in apart (o .placed .only (index τ) (h .at) (h .value) (h .here)) (o .outside);
+  }
+
+  -- where the meaning breaks off, P stands where X leaves the array
+  left-at : (τ : State) (h : Standing τ) → Out (mapAt (c .program)) (laid .sound) s τ (h .p) → (t : Total) → Comes s t → t .granted ≡ τ .steps → Leaves (c .program) τ (t .state .machine .p)
+  left-at τ h o t (Comes.list qs) e =
+      let r = runs.reached qs (h .at .made) e in
+      subst (λ (n : ℕ). Leaves (c .program) τ n) (sym (ap (λ (u : machine.State). u .machine .p) (r .0))) (left τ (h .p) o)
 
   -- budgets that the machine makes in full
   all-made : (τ : State) → Standing τ → (t : Total) → Comes s t → t .granted ≤ τ .steps → AllMade t
@@ -229,8 +263,10 @@ module _ (c : Compiled) (is : c .image ≡ imageOf (c .program)) (well : WellFor
     complete = λ f τ e. out-of (followed f) e .0;
     rising = λ f. subst (λ (n : ℕ). Rising n (meaning f (c .program) σ)) (loaded .start .begins) (rising-of (followed f));
     homes = homes;
+    cells = cells;
+    elements = elements;
     observed = λ f τ o. meets τ (observed-of (followed f) o);
-    broken = λ f τ b. meets τ (broken-of (followed f) b .0);
+    broken = λ f τ b t k e. (meets τ (broken-of (followed f) b .0) t k e, left-at τ (broken-of (followed f) b .0) (out-at (followed f) b) t k e);
     until-broken = λ f τ b. all-made τ (broken-of (followed f) b .0);
     halts = halts-at;
     stops = λ e f τ b. stops-at τ (stopping e (broken-of (followed f) b .1));
@@ -239,7 +275,8 @@ module _ (c : Compiled) (is : c .image ≡ imageOf (c .program)) (well : WellFor
 
 pub agrees : (c : Compiled) → c .image ≡ imageOf (c .program) → WellFormed (c .program)
     → LaidProgram (mapAt (c .program)) (knownOf (c .program .declarations)) (c .program .main) (c .entry)
-    → ((i : CellId) → List·Memᴰ i (variablesOf (c .program)) → Home (c .program) i) → mapAt (c .program) savedWord ≡ savedRole (c .program .checked)
+    → ((i : CellId) → List·Memᴰ i (variablesOf (c .program)) → Home (c .program) i) → ((k : ℕ) (i : CellId) (v : ℕ) → mapAt (c .program) k ≡ Role.cell i v → Declares (c .program) i v)
+    → ((a : Array) → List·Memᴰ a (arraysOf (c .program)) → Elements (c .program) a) → mapAt (c .program) savedWord ≡ savedRole (c .program .checked)
     → after (mainWords (c .program .main) (c .entry)) (c .entry) ≡ finished (c .program) .next
     → (σ : State) (s : machine.State) → Loaded c σ s → Agrees (c .program) σ (Comes s)
-agrees c is well laid homes saved-at at-end σ s loaded = result c is well laid homes saved-at at-end σ s loaded
+agrees c is well laid homes cells elements saved-at at-end σ s loaded = result c is well laid homes cells elements saved-at at-end σ s loaded

@@ -1,19 +1,19 @@
 -- The invariant: from `from` on, with the locals that are done, the definition reads what it reads from `at` on.
 use mathlib.Core.Path.{_≡_, refl, _∙_}
 use lib.ListN.{length}
-use Rattle.grammar.specs.Declarations.{parseLocals}
+use Rattle.grammar.specs.Declarations.{moreLocals, parseLocals}
 use Rattle.declarations.specs.Scopes.{scopeOf, ItemsDeclared}
 use Rattle.declarations.specs.Procedures.{treeFound}
 use Rattle.parser.proofs.ReadLaws.{Turning, turn-zero, turn-none, turn-failed, turn-next}
 use Rattle.declarations.proofs.ScopeLaws.{none-scoped}
-use Rattle.declarations.proofs.ListLaws.{localMore, locals-first, local-none, local-some, locals-next}
+use Rattle.declarations.proofs.ListLaws.{locals-first, local-none, local-some, locals-next}
 use borrow.Author.Needs.{needs}
 use Rattle.declarations.proofs.lists.locals.Statement.{statement}
 use Rattle.declarations.proofs.lists.locals.Tie as tie
 
 abbrev Inv-loop : tie.InvT-loop
 Inv-loop source table₀ image₀ at current₀ from₀ left₀ table image current from left =
-    Turning (localMore source (scopeOf current₀ table₀)) (parseLocals source (scopeOf current₀ table₀) at) (ItemsDeclared current₀ table₀ image₀ current table image) from left
+    Turning (moreLocals source (scopeOf current₀ table₀)) (parseLocals source (scopeOf current₀ table₀) at) (ItemsDeclared current₀ table₀ image₀ current table image) from left
     × (length table ≡ length table₀) × (length image ≡ length image₀)
 
 abbrev μ-loop : tie.MeasureT-loop

@@ -3,18 +3,18 @@ use mathlib.Core.Path.{_≡_, refl, sym, _∙_}
 use lib.ListN.{length}
 use native.Mathlib.Omega.{arith}
 use borrow.Author.Tests.{not-true, not-false}
-use Rattle.grammar.specs.Declarations.{parseDeclarations}
+use Rattle.grammar.specs.Declarations.{moreDeclarations, parseDeclarations}
 use Rattle.declarations.specs.Allocations.{endOf, Declared}
 use Rattle.parser.proofs.ReadLaws.{Turning, turn-zero, turn-none, turn-failed, turn-next}
 use Rattle.declarations.proofs.AllocationLaws.{none-declared}
-use Rattle.declarations.proofs.FormLaws.{declarationMore, declarations-first, declaration-none, declaration-some, declaration-next}
+use Rattle.declarations.proofs.FormLaws.{declarations-first, declaration-none, declaration-some, declaration-next}
 use borrow.Author.Needs.{needs}
 use Rattle.declarations.proofs.program.declarations.Statement.{statement}
 use Rattle.declarations.proofs.program.declarations.Tie as tie
 
 abbrev Inv-loop : tie.InvT-loop
 Inv-loop source table₀ image₀ plan checked at current₀ from₀ left₀ table image current from left =
-    Turning (declarationMore source checked) (parseDeclarations source checked at) (Declared (endOf plan) current₀ table₀ image₀ current table image) from left
+    Turning (moreDeclarations source checked) (parseDeclarations source checked at) (Declared (endOf plan) current₀ table₀ image₀ current table image) from left
     × (length table ≡ length table₀) × (length image ≡ length image₀)
 
 abbrev μ-loop : tie.MeasureT-loop

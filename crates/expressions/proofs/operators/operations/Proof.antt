@@ -7,7 +7,7 @@ use lib.ListN.{length}
 use borrow.Author.Tests.{not-true, not-false}
 use Rattle.layout.specs.Words.{operationsWords}
 use Rattle.grammar.specs.Parse.{repeat}
-use Rattle.grammar.specs.Expressions.{parseOperations}
+use Rattle.grammar.specs.Expressions.{moreOperations, parseOperations}
 use Rattle.symbols.specs.Table.{liveNames}
 use Rattle.emitter.specs.declared.Context.{Context}
 use Rattle.emitter.specs.declared.Output.{Output}
@@ -15,13 +15,13 @@ use Rattle.emitter.specs.Emitted.{emittedBy, basesOf}
 use Rattle.emitter.specs.Lays.{Lays}
 use Rattle.emitter.proofs.Lays.{nothing}
 use Rattle.parser.proofs.ReadLaws.{Turning, turn-zero, turn-none, turn-failed, turn-next}
-use Rattle.expressions.proofs.OperatorLaws.{more, turn-one, turn-last, more-none, more-some, after-others}
+use Rattle.expressions.proofs.OperatorLaws.{turn-one, turn-last, more-none, more-some, after-others}
 use Rattle.expressions.proofs.operators.operations.Statement.{statement}
 use Rattle.expressions.proofs.operators.operations.Tie as tie
 
 -- what is left of the source after the operations that are done, whose words are emitted
 record Inv (source table image₀ : List ℕ) (context : Context) (at : ℕ) (held₀ : Output) (image : List ℕ) (i : ℕ) (held : Output) (k : ℕ) : Type 0 where
-  turning : Turning (more source (liveNames (context .names) table)) (parseOperations source (liveNames (context .names) table) at)
+  turning : Turning (moreOperations source (liveNames (context .names) table)) (parseOperations source (liveNames (context .names) table) at)
       (λ os. Lays (basesOf context) (emittedBy held₀ image₀) (emittedBy held image) (λ _. operationsWords os)) i k
   long : length image ≡ length image₀
 
