@@ -1,4 +1,6 @@
 // What is typed behind a program's name: a count of turns, and the sense switches.
+#![tactic(auto)]
+
 ghost use Rattle.std.specs.Prelude.{◌≡◌};
 ghost use Rattle.prelude.specs.Text.{all};
 ghost use Rattle.arguments.specs.Arguments.{turns_of, turns_in, is_switch, switches_of, switches_in};

@@ -1,11 +1,13 @@
 // Reading stored cases: decimal numbers, each followed by one blank or newline, what a run starts with, and parts of the text.
+#![tactic(auto)]
+
 ghost use Rattle.std.specs.Prelude.{◌≡◌, ◌≤◌, length, drop};
 ghost use Rattle.case_input.specs.Cases.{is_digit, grown, number_from, word_of, flag_of, registers_from, switches_from, words_from, part_end};
 
 use effect::{Registers, Switches};
 
 // A number, and where the next one starts.
-#[derive(Drop)]
+#[derive(Clone, Copy)]
 pub struct Number {
     pub value: u32,
     pub next: usize,

@@ -1,4 +1,6 @@
 // Printing how a run of a stored case ends: words in octal, all else in decimal.
+#![tactic(auto)]
+
 ghost use Rattle.std.specs.Prelude.{◌≡◌, ◌≤◌, length};
 
 use effect::Registers;

@@ -1,5 +1,7 @@
 // Parsing of constants, cells and the first token of a term or statement: each as its definition in grammar, from an offset.
 // An answer is a part and a value, which is a fixed one where the part failed. Here: the types, and constants.
+#![tactic(auto)]
+
 ghost use Rattle.std.specs.Prelude.{◌≡◌, leb};
 ghost use Rattle.prelude.specs.Choice.{between};
 ghost use Rattle.grammar.specs.Cells.{parse_constant, parse_in_range};

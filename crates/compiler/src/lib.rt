@@ -1,5 +1,7 @@
 // The compiler. A source is read twice by the same function: first on no image at all, so that one that fails has touched nothing, then on the image, with
 // the pools' addresses that the first reading found.
+#![tactic(auto)]
+
 ghost use Rattle.std.specs.Prelude.{◌≡◌, ◌≤◌, length, replicate};
 ghost use Rattle.layout.specs.Addresses.{memory_words};
 ghost use Rattle.compilation.specs.Compile.{compile_def};

@@ -1,4 +1,6 @@
 // Declarations: parsed, declared and emitted in one go.
+#![tactic(auto)]
+
 ghost use Rattle.std.specs.Prelude.{◌≡◌};
 ghost use Rattle.declarations.specs.Allocations.{with_end};
 
@@ -19,7 +21,7 @@ use parser::Part;
 use symbols::Packed;
 
 // The code ends of the closed sectors, in order; the first `count` count.
-#[derive(Drop)]
+#[derive(Clone, Copy)]
 pub struct SectorEnds {
     pub ends: [u16; 32],
     pub count: usize,
@@ -27,7 +29,7 @@ pub struct SectorEnds {
 
 // Storage allocated between declarations, but for the symbol table: the counts of live names and of globals that take a word, what is emitted, the closed
 // sectors, and element 0 of the next array.
-#[derive(Drop)]
+#[derive(Clone, Copy)]
 pub struct Allocation {
     pub names: usize,
     pub taken: u16,
@@ -38,7 +40,7 @@ pub struct Allocation {
 
 // What an item is declared under: the count of live names, its level as the symbol table has it, how many words its names have taken, and the address of
 // the first.
-#[derive(Drop)]
+#[derive(Clone, Copy)]
 pub struct Scope {
     pub names: usize,
     pub level: u16,
@@ -47,14 +49,14 @@ pub struct Scope {
 }
 
 // How an item's declaration begins.
-#[derive(Drop)]
+#[derive(Clone, Copy)]
 pub enum ItemKeyword {
     Integer,
     Constant,
     Compconstant,
 }
 
-#[derive(Drop)]
+#[derive(Clone, Copy)]
 pub enum Item {
     Integer,
     Constant { value: u16 },
@@ -120,7 +122,7 @@ pub struct FrameAnswer {
 }
 
 // A program: whether its subscripts are tested, the allocation after its declarations, and what is emitted at its end.
-#[derive(Drop)]
+#[derive(Clone, Copy)]
 pub struct ProgramAnswer {
     pub part: Part,
     pub checked: bool,

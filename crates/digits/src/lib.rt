@@ -1,5 +1,7 @@
 // Texts and numbers, written into a lent buffer from an offset on. Past its end nothing is stored. The answer is the offset behind the text, or the
 // largest usize where that would be larger: so nobody has to see that there is room, and who wants to know compares the answer with the buffer's length.
+#![tactic(auto)]
+
 ghost use Rattle.std.specs.Prelude.{◌≡◌, ◌+◌, ◌%◌, ◌≤◌, length, set, [], ◌∷◌};
 ghost use Rattle.digits.specs.Digits.{octal, decimal_by, decimal, signed};
 ghost use Rattle.digits.specs.Wrote.{largest, up_of, Wrote};

@@ -1,5 +1,7 @@
 // What the instructions do to the registers A, B and C. Each function equals a definition of specs/, which the semantics of the language
 // uses too.
+#![tactic(auto)]
+
 ghost use Rattle.std.specs.Prelude.{◌≡◌};
 ghost use Rattle.effect.specs.Registers.{with_a, with_flagged, swapped};
 ghost use Rattle.effect.specs.Effects.{operate_of, unary_of, shifted_of};
@@ -11,7 +13,7 @@ use word::{Flagged, SIGN};
 
 mod double;
 
-#[derive(Drop)]
+#[derive(Clone, Copy)]
 pub struct Registers {
     pub a: u16,
     pub b: u16,
@@ -19,7 +21,7 @@ pub struct Registers {
 }
 
 // The sense switches.
-#[derive(Drop)]
+#[derive(Clone, Copy)]
 pub struct Switches {
     pub one: bool,
     pub two: bool,

@@ -1,4 +1,6 @@
 // Emission: words into the lent image, the literal pool by value.
+#![tactic(auto)]
+
 ghost use Rattle.std.specs.Prelude.{◌≡◌, true, false, [], ◌∷◌, ◌+◌, ◌≤◌, length, get_or, set};
 ghost use Rattle.instruction.specs.Opcode as opcodes;
 ghost use Rattle.instruction.specs.Table.{table_of};
@@ -35,21 +37,21 @@ const HIGHEST: u16 = 65535;
 const POOL_WORDS: usize = addresses::SECTOR_WORDS as usize;
 
 // The literal pool of the open sector, in order of first use (A7); the first `count` words count.
-#[derive(Drop)]
+#[derive(Clone, Copy)]
 pub struct Pool {
     pub words: [u16; POOL_WORDS],
     pub count: usize,
 }
 
 // What is emitted so far, but for the image: the address of the next word, and the pool.
-#[derive(Drop)]
+#[derive(Clone, Copy)]
 pub struct Output {
     pub next: u16,
     pub pool: Pool,
 }
 
 // What a body is compiled under: the count of live names, the address of its sector's pool, and of its procedure's first local.
-#[derive(Drop)]
+#[derive(Clone, Copy)]
 pub struct Context {
     pub names: usize,
     pub pool: u16,

@@ -1,4 +1,6 @@
 // Expressions and conditions: parsed and emitted in one go. Past the end of the image nothing is stored, so a first pass runs on an empty one.
+#![tactic(auto)]
+
 ghost use Rattle.layout.specs.Words.{cell_words, expr_words, term_words, cond_words};
 ghost use Rattle.symbols.specs.Trees.{tree_cell};
 ghost use Rattle.parser.specs.Answers.{got_with};

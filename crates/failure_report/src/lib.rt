@@ -1,4 +1,6 @@
 // A failure as it is shown: its place, number and words; the line that it stands in; and a caret below its place (O1 to O3).
+#![tactic(auto)]
+
 ghost use Rattle.std.specs.Prelude.{◌++◌, map, ◌≤◌, length};
 ghost use Rattle.digits.specs.Digits.{newline};
 ghost use Rattle.digits.specs.Wrote.{Wrote};

@@ -1,5 +1,7 @@
 // The first page and the collection page: a recipe (a source of the report writer's) sums an array of litres.
 // The litres, and the total of the first page, are taken from the machine's memory; the collection page adds up its own totals.
+#![tactic(auto)]
+
 use compiler::{Answer, SCRATCH_WORDS};
 use digits::{put_decimal, put_text};
 use effect::Switches;

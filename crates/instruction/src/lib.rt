@@ -1,4 +1,6 @@
 // The instructions of the DDP-516: the table of the generic ones, the decoder and the encoder.
+#![tactic(auto)]
+
 ghost use Rattle.std.specs.Prelude.{◌≡◌, ◌<◌, ◌&&◌, leb};
 ghost use Rattle.instruction.specs.Field.{opcode_of};
 ghost use Rattle.instruction.specs.Table.{short_kinds, table_of};

@@ -1,4 +1,6 @@
 // The examples of docs/LANGUAGE.md, and README's first: a heading for each source, and below it what `run` prints of it.
+#![tactic(auto)]
+
 use arguments::SwitchesArgument;
 use compiler::SCRATCH_WORDS;
 use effect::Switches;

@@ -1,4 +1,6 @@
 // The listing program: reads a source, compiles it onto zeros, and prints the listing (P1). Its stored output is that of the first program (K1).
+#![tactic(auto)]
+
 use libc::STDIN_FILENO;
 use listing_lines::LONGEST;
 

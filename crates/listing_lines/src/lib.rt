@@ -1,4 +1,6 @@
 // The listing (P1 to P4), written into a lent buffer from its start. Past its end nothing is stored, and the answer is the whole length.
+#![tactic(auto)]
+
 ghost use Rattle.std.specs.Prelude.{◌≡◌, take, drop};
 ghost use Rattle.digits.specs.Digits.{octal, decimal};
 ghost use Rattle.digits.specs.Wrote.{Wrote};

@@ -1,4 +1,6 @@
 // Compiles the stored sources and prints the listing of each.
+#![tactic(auto)]
+
 use case_input::{parse_number, part_end};
 use compiler::SCRATCH_WORDS;
 use libc::{STDIN_FILENO, STDOUT_FILENO};

@@ -1,4 +1,6 @@
 // The DDP-516 as a word machine: registers by value, the image lent, its word 0 being X. A run makes up to a budget of steps.
+#![tactic(auto)]
+
 ghost use Rattle.std.specs.Prelude.{◌≡◌, ◌<◌, length};
 ghost use Rattle.machine.specs.State.{state};
 ghost use Rattle.machine.specs.Clock.{cooperatives, start_clock, spend_many, due_of};
@@ -24,7 +26,7 @@ const COOPERATIVES: u32 = 16;
 // Half of the clock's range: a deadline that is this far behind, or further, counts as one ahead (R9).
 const HALF_RANGE: u32 = 2147483648;
 
-#[derive(Drop)]
+#[derive(Clone, Copy)]
 pub struct Machine {
     pub registers: Registers,
     pub p: u16,
@@ -33,7 +35,7 @@ pub struct Machine {
 }
 
 // The clock record: the steps of all runs, and beside them those of each cooperative, in 32 bits each, which wrap (R8, R12).
-#[derive(Drop)]
+#[derive(Clone, Copy)]
 pub struct Clock {
     pub common: u32,
     pub counts: [u32; 16],
@@ -47,7 +49,7 @@ pub struct Request {
     pub cooperative: u32,
 }
 
-#[derive(Drop)]
+#[derive(Clone, Copy)]
 pub enum Outcome {
     Halted,
     Spent,
@@ -55,7 +57,7 @@ pub enum Outcome {
     Failed(u16),
 }
 
-#[derive(Drop)]
+#[derive(Clone, Copy)]
 pub struct Report {
     pub steps: u32,
     pub outcome: Outcome,

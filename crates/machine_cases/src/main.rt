@@ -1,4 +1,6 @@
 // The limits of the machine (R3 to R9, R12, R13, F1, F20 to F23, F27, J12), by name: each case prints what came out.
+#![tactic(auto)]
+
 ghost use Rattle.std.specs.Prelude.{◌≤◌};
 
 use case_output::{decimal, text};

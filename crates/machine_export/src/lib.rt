@@ -1,4 +1,6 @@
 // The machine for other languages, on slices of numbers (R11). specs/Places.antt says which number is what.
+#![tactic(auto)]
+
 ghost use Rattle.std.specs.Prelude.{◌≡◌, ◌<◌, length};
 ghost use Rattle.word.specs.Arithmetic.{bit};
 ghost use Rattle.machine.specs.Failure.{failure_of};

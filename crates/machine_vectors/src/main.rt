@@ -1,4 +1,6 @@
 // Runs the stored vectors of the machine: reads the cases, and writes what each run answers and which words it changes.
+#![tactic(auto)]
+
 use libc::STDIN_FILENO;
 
 mod input;

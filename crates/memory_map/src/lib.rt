@@ -1,4 +1,6 @@
 // Theorems on the memory map of an accepted program. The functions carry them as their contracts.
+#![tactic(auto)]
+
 ghost use Rattle.memory_map.specs.EmittedImage.{EmittedImage};
 ghost use Rattle.memory_map.specs.MapLaws.{MapLaws};
 

@@ -1,4 +1,6 @@
 // Printing on standard output.
+#![tactic(auto)]
+
 use libc::STDOUT_FILENO;
 
 pub fn print(text: &[u8]) {

@@ -1,4 +1,6 @@
 // The collection page: a line for each farm, from names and litres that are handed in (B1 to B5).
+#![tactic(auto)]
+
 ghost use Rattle.std.specs.Prelude.{◌≡◌, ◌+◌, ◌≤◌, length, drop};
 ghost use Rattle.digits.specs.Wrote.{Wrote};
 ghost use Rattle.page.specs.Names as spec;

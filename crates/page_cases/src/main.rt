@@ -1,4 +1,6 @@
 // The page of three farms, then the limits of pages (B1 to B5, F24 to F26, J14), by name: each case prints what came out.
+#![tactic(auto)]
+
 ghost use Rattle.std.specs.Prelude.{◌≤◌};
 
 use page::Answer;

@@ -1,4 +1,6 @@
 // What the programs with stored pages share: an output that is marked before the call, and whether what may not be written is still marked.
+#![tactic(auto)]
+
 use output::print;
 
 // No page has this byte.

@@ -1,4 +1,6 @@
 // Makes the stored pages, and prints each answer, the page, and whether the bytes that may not be written are as they were.
+#![tactic(auto)]
+
 use case_input::{parse_number, part_end, word};
 use libc::{STDIN_FILENO, STDOUT_FILENO};
 use page::Answer;

@@ -1,5 +1,7 @@
 // Cases of the compiler by name, those that proved_cases does not have (K5 to K8, F1 to F3, F10, J15, T14 and D7): the listing of each, what is left in the
 // image and in scratch, and how the image of an accepted one runs.
+#![tactic(auto)]
+
 use case_input::{parse_number, part_end};
 use compiler::{Answer, SCRATCH_WORDS};
 use effect::{Registers, Switches};

@@ -1,4 +1,6 @@
 // What every function that reads a part of the source is made of: the part, the token that must stand there, and failures. `failures` has the numbers.
+#![tactic(auto)]
+
 ghost use Rattle.std.specs.Prelude.{◌≡◌, ℕ, min};
 ghost use Rattle.source.specs.Tokens.{token_at, failure_at};
 ghost use Rattle.grammar.specs.Parse.{expect as expect_def};
@@ -10,7 +12,7 @@ use source::{Token, kind, token_at};
 pub mod failures;
 
 // Whether a part of the source was read, and up to where; or a failure's number and offset.
-#[derive(Drop)]
+#[derive(Clone, Copy)]
 pub enum Part {
     Read { next: usize },
     Failed { number: u16, at: usize },

@@ -1,4 +1,6 @@
 // Theorems on what parsing answers. The functions carry them as their contracts.
+#![tactic(auto)]
+
 ghost use Rattle.parsing_laws.specs.Numbered.{FailuresNumbered};
 ghost use Rattle.parsing_laws.specs.Turns.{TurnsEnough};
 ghost use Rattle.parsing_laws.specs.WellFormed.{AcceptedWellFormed};

@@ -1,1 +1,2 @@
 // What every definition is made of. The definitions are in specs/.
+#![tactic(auto)]

@@ -1,4 +1,6 @@
 // What a person is shown of a source: its failure, or the end of its run with the registers and the globals.
+#![tactic(auto)]
+
 ghost use Rattle.report.specs.Shown.{Shows};
 
 use compiler::Answer;

@@ -64,7 +64,7 @@ fn put_registers(out: &mut [u8], at: usize, registers: Registers, x: u16) -> usi
 }
 
 // What is read of a program: how many names the table holds, whether its subscripts are tested, and the address behind its last HLT.
-#[derive(Drop)]
+#[derive(Clone, Copy)]
 pub struct ProgramFacts {
     pub names: usize,
     pub checked: bool,

@@ -1,4 +1,6 @@
 // run [FILE or -] [TURNS] [SWITCHES]: compiles a source from a file or from standard input, runs it and prints what came of it (O10).
+#![tactic(auto)]
+
 use arguments::{SwitchesArgument, TurnsArgument};
 use compiler::SCRATCH_WORDS;
 use effect::Switches;

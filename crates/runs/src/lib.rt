@@ -1,4 +1,6 @@
 // The laws of runs. The crate is about specs/ and proofs/: these functions carry their theorems as their contracts.
+#![tactic(auto)]
+
 ghost use Rattle.machine.specs.State.{state};
 ghost use Rattle.runs.specs.Calls.{run_call, RunCalled};
 ghost use Rattle.runs.specs.ClockLaws.{ClockLaws};

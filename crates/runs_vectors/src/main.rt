@@ -1,5 +1,7 @@
 // Compiles the stored sources and runs them from their entries, in pieces that end at the observations of their meanings (`moments`): all comes out as
 // in one run. A moment is a number that is read: that it is printed says only that the run had not ended by then.
+#![tactic(auto)]
+
 use case_input::{parse_number, part_end};
 use case_output::{decimal, text};
 use compiler::{Answer, SCRATCH_WORDS};

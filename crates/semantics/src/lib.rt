@@ -1,4 +1,6 @@
 // The semantics of the language, and demand 3 over the definitions. The functions carry the theorems as their contracts.
+#![tactic(auto)]
+
 ghost use Rattle.semantics.specs.Agreement.{Demand3, Loadable};
 ghost use Rattle.semantics.specs.CheckedLaws.{CheckedLaws};
 ghost use Rattle.semantics.specs.MeaningLaws.{MeaningLaws};

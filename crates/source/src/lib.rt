@@ -1,4 +1,6 @@
 // Bytes and tokens of the source: the token at an offset, as specs/ defines it.
+#![tactic(auto)]
+
 ghost use Rattle.std.specs.Prelude.{◌≡◌, drop};
 ghost use Rattle.source.specs.Tokens.{token_of, operator_of, token_at, operator_at};
 
@@ -13,7 +15,7 @@ mod sign;
 mod span;
 
 // Its kind; the 16 bits of a constant in figures; the offsets of its first byte and after its last.
-#[derive(Drop)]
+#[derive(Clone, Copy)]
 pub struct Token {
     pub kind: u16,
     pub value: u16,

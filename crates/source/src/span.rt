@@ -5,7 +5,7 @@ ghost use Rattle.source.specs.Classes.{passes};
 
 use crate::byte::is_between;
 
-#[derive(Drop)]
+#[derive(Clone, Copy)]
 pub enum Class {
     Blank,
     Digit,

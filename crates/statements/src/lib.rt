@@ -1,4 +1,6 @@
 // Statements: parsed and emitted in one go. Where a part fails, its failure is answered at once; of what is emitted then, `Kept` holds.
+#![tactic(auto)]
+
 ghost use Rattle.std.specs.Prelude.{◌≡◌};
 ghost use Rattle.layout.specs.Words.{stmts_words};
 ghost use Rattle.grammar.specs.Statements.{ends_statement};

@@ -1,5 +1,7 @@
 // The symbol table: the live names in lent scratch words, ENTRY words each, the newest last. A name is packed once and compared packed (C7).
 // Also what a name stands for, and what a cell is made of, as parsing hands it to emission: values only, no addresses.
+#![tactic(auto)]
+
 ghost use Rattle.std.specs.Prelude.{◌≡◌, ◌+◌, ◌≤◌, ◌<◌, length};
 ghost use Rattle.source.specs.Tokens.{name_of};
 ghost use Rattle.tree.specs.Symbols.{is_x, symbol_of, next_id, is_taken};
@@ -37,7 +39,7 @@ const UNKNOWN: u16 = 0;
 const X: u16 = 0o054000;
 
 // An integer or a named constant: X; the number of a global; its procedure's number, and its own among the locals.
-#[derive(Drop)]
+#[derive(Clone, Copy)]
 pub enum Id {
     X,
     Global { number: u16 },
@@ -45,34 +47,34 @@ pub enum Id {
 }
 
 // An array: its number among the globals, its size, and whether its subscripts are tested.
-#[derive(Drop)]
+#[derive(Clone, Copy)]
 pub struct Array {
     pub number: u16,
     pub size: u16,
     pub checked: bool,
 }
 
-#[derive(Drop)]
+#[derive(Clone, Copy)]
 pub enum Operand {
     Named { id: Id },
     Literal { value: u16 },
 }
 
 // By a word, or `#`, which is X as it is.
-#[derive(Drop)]
+#[derive(Clone, Copy)]
 pub enum Subscript {
     By { operand: Operand },
     Hash,
 }
 
-#[derive(Drop)]
+#[derive(Clone, Copy)]
 pub enum Cell {
     Plain { operand: Operand },
     Item { array: Array, subscript: Subscript },
 }
 
 // What a name stands for. A procedure's number counts with the globals.
-#[derive(Drop)]
+#[derive(Clone, Copy)]
 pub enum Symbol {
     Integer { id: Id },
     Constant { id: Id, value: u16 },
@@ -83,7 +85,7 @@ pub enum Symbol {
 }
 
 // The first six characters of a name, two a word, 0 where there is none (T14).
-#[derive(Drop)]
+#[derive(Clone, Copy)]
 pub struct Packed {
     pub one: u16,
     pub two: u16,
@@ -99,7 +101,7 @@ pub struct Data {
 }
 
 // A row of the table: a name, and what it stands for.
-#[derive(Drop)]
+#[derive(Clone, Copy)]
 pub struct Row {
     pub name: Packed,
     pub symbol: Symbol,

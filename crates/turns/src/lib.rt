@@ -1,4 +1,6 @@
 // A program run in turns: runs of the largest budget, one after the other while they are spent.
+#![tactic(auto)]
+
 ghost use Rattle.std.specs.Prelude.{◌≡◌};
 ghost use Rattle.machine.specs.State.{state};
 ghost use Rattle.turns.specs.Turns.{start_machine, turns_def, Answers};

@@ -1,5 +1,7 @@
 // Words of 16 bits: what the instructions do to them. Each function equals a definition of specs/, which the semantics of the
 // language uses too.
+#![tactic(auto)]
+
 ghost use Rattle.std.specs.Prelude.{◌≡◌, ◌<◌};
 ghost use Rattle.word.specs.Arithmetic.{bit, biased, overflows, sum_of, difference_of, compare_of};
 
