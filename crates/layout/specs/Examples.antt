@@ -175,7 +175,7 @@ pool_order : literals_of (stmt_words (Stmt.assign (Target.item a (Subscript.by (
 unfolding computed
 pool_order = refl
 
--- `@ / B[-2].MOD 5` pools -2, then 5
+-- `@ / B[-2] .MOD 5` pools -2, then 5
 pool_order_divided :
     literals_of (expr_words (Expr.chain [] Term.accumulator (Operation.binary Operator.divide (Cell.item b (Subscript.by (Operand.literal 65534))) ∷ Operation.binary Operator.modulo (Cell.plain five) ∷ [])) 0o1000)
     ≡ 65534 ∷ 5 ∷ []
@@ -193,7 +193,7 @@ places = refl
 
 -- ---- The map
 
--- A and `.PROCEDURE P; .BEGIN A = (5).END; .NEXTSECTOR;`, then `A = 6 + 5`
+-- A and `.PROCEDURE P; .BEGIN A = 5 .END; .NEXTSECTOR;`, then `A = 6 + 5`
 abbrev two_sectors : Program
 two_sectors =
     let assigned = Stmt.assign (Target.integer (Id.global 0)) in

@@ -176,7 +176,7 @@ doubles =
     (".BEGIN @ = .NEG @ .MOD 2 .END", 0 ∷ 4 ∷ [], Ending.done 4 65535 0, 65533, false) ∷
     (".BEGIN @ = .NEG @ .MOD-2 .END", 0 ∷ 4 ∷ [], Ending.done 4 65535 0, 3, false) ∷
     (".BEGIN @ = @ .MOD -2 .END", 0 ∷ 3 ∷ [], Ending.done 3 1 0, 65533, false) ∷
-    -- by 0 A and B stay as LRS left them, and C is set: 7 / 0 is 0, -7 / 0 is -1, (7).MOD 0 is 7
+    -- by 0 A and B stay as LRS left them, and C is set: 7 / 0 is 0, -7 / 0 is -1, 7 .MOD 0 is 7
     (".BEGIN @ = @ / 0 .END", 0 ∷ 2 ∷ [], Ending.done 2 0 0, 7, true) ∷
     (".BEGIN @ = .NEG @ / 0 .END", 0 ∷ 3 ∷ [], Ending.done 3 65535 0, 32761, true) ∷
     (".BEGIN @ = @ .MOD 0 .END", 0 ∷ 3 ∷ [], Ending.done 3 7 0, 0, true) ∷

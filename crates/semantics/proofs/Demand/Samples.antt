@@ -105,7 +105,7 @@ outside_shows s l t k h =
 abbrev array : ℕ → Array
 array size = record { number = 0; size = size; checked = true }
 
--- `.BEGIN .CHECKED; .ARRAY T[size]; T[v] = (5).END`
+-- `.BEGIN .CHECKED; .ARRAY T[size]; T[v] = 5 .END`
 unfoldable pub testing : ℕ → ℕ → Program
 testing size v = record {
   checked = true;
