@@ -140,3 +140,7 @@ decimal_shown k n h = ended_shown (whether (ltb n 10) (λ _. []) (λ _. decimal_
 pub right_shown : (w n : ℕ) → n < 10 ^ 20 → shown (right_in w n) ≡ some n
 unfolding right_in
 right_shown w n h = spaces_shown (w - length (decimal n)) (decimal n) ∙ decimal_shown 19 n h
+
+pub ruleset columns_decimal_length_laws = (one_digit, shorter)
+
+pub ruleset columns_put_spaces_laws = (next_space, no_space)

@@ -58,6 +58,7 @@ fn put_octal_digit(out: &mut [u8], at: usize, n: usize) -> usize
 }
 
 // The six lowest octal digits (P3).
+#[tactic(auto, unfolding(crate::specs::Digits::octal_by))]
 pub fn put_octal(out: &mut [u8], at: usize, n: usize) -> usize
     ensures { Wrote out.old out.new at result (octal n) }
 {

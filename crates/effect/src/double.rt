@@ -47,6 +47,7 @@ fn product(a: u16, v: u16) -> u32
 }
 
 // MPY.
+#[tactic(auto, unfolding(crate::specs::Double::multiply_of))]
 pub fn multiply(v: u16, r: Registers) -> Registers
     ensures { result ≡ multiply_of v r }
 {
@@ -68,6 +69,7 @@ fn undivided(r: Registers) -> Registers
 }
 
 // DIV by v, which is not 0.
+#[tactic(auto, unfolding(crate::specs::Double::divide_of))]
 fn divide_by(v: u16, r: Registers) -> Registers
     requires { 0 < v }
     ensures { result ≡ divide_of v r }
@@ -87,6 +89,7 @@ fn divide_by(v: u16, r: Registers) -> Registers
 }
 
 // DIV.
+#[tactic(auto, unfolding(crate::specs::Double::divide_of))]
 pub fn divide(v: u16, r: Registers) -> Registers
     ensures { result ≡ divide_of v r }
 {
@@ -97,6 +100,7 @@ pub fn divide(v: u16, r: Registers) -> Registers
 }
 
 // LLS by 15.
+#[tactic(auto, unfolding(crate::specs::Double::long_left_of))]
 pub fn long_left(r: Registers) -> Registers
     ensures { result ≡ long_left_of r }
 {
@@ -107,6 +111,7 @@ pub fn long_left(r: Registers) -> Registers
 }
 
 // LRS by 15.
+#[tactic(auto, unfolding(crate::specs::Double::long_right_of))]
 pub fn long_right(r: Registers) -> Registers
     ensures { result ≡ long_right_of r }
 {

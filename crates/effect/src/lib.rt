@@ -57,6 +57,7 @@ fn swap(r: Registers) -> Registers
 }
 
 // LDA, ANA, ERA, ADD, SUB, MPY and DIV with the operand v; any other opcode changes nothing.
+#[tactic(auto, unfolding(crate::specs::Effects::operate_of))]
 pub fn operate(opcode: u16, v: u16, r: Registers) -> Registers
     ensures { result ≡ operate_of opcode v r }
 {
@@ -74,6 +75,7 @@ pub fn operate(opcode: u16, v: u16, r: Registers) -> Registers
 }
 
 // The generic instructions that work on A, B and C; any other slot changes nothing.
+#[tactic(auto, unfolding(crate::specs::Effects::unary_of))]
 pub fn unary(slot: usize, r: Registers) -> Registers
     ensures { result ≡ unary_of slot r }
 {
@@ -122,6 +124,7 @@ fn any_switch(s: Switches) -> bool
 }
 
 // Whether an instruction that may skip does; any other slot does not.
+#[tactic(auto, unfolding(crate::specs::Skips::skips_of))]
 pub fn skips(slot: usize, r: Registers, s: Switches) -> bool
     ensures { result ≡ skips_of slot r s }
 {

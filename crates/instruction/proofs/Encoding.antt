@@ -267,3 +267,5 @@ unknown_exactly w h = record {
 
 pub agreement : Agreement
 agreement = record { encoded = encoded; known = known; unknown_exactly = unknown_exactly; decoder = decode_same; slots = slots }
+
+pub ruleset table_laws_laws = (agreement)

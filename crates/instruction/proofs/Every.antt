@@ -32,6 +32,7 @@ all f (x ∷ xs) = both (f x) (all f xs)
 pub passes : {A : Type 0} (f : A → Bool) (x : A) (l : List A) → T (all f l) → Memᴰ x l → T (f x)
 passes {A} f x (y ∷ l) t (Memᴰ.head e) = subst (λ (z : A). T (f z)) (sym e) (both_left (f y) (all f l) t)
 passes f x (y ∷ l) t (Memᴰ.tail m) = passes f x l (both_right (f y) (all f l) t) m
+passes {A = A} f x [] t x3 = elim x3 [ ]
 
 -- the test f passes at each entry of the list and its place, counted from i
 abbrev pub every : (ℕ → ℕ → Bool) → ℕ → List ℕ → Bool

@@ -29,6 +29,7 @@ in_member n (m ∷ ms) e = by (or_either (eqb n m) (is_in n ms) e) (in_member n 
 pub member_in : (n : ℕ) (l : List ℕ) → Memᴰ n l → is_in n l ≡ true
 member_in n (m ∷ ms) (Memᴰ.head e) = ap (λ (b : Bool). b || is_in n ms) (eq-eqb n m e)
 member_in n (m ∷ ms) (Memᴰ.tail h) = or_right (eqb n m) (member_in n ms h)
+member_in n [] x' = elim x' [ ]
 
 -- the numbers from low to low + k, and two such lists
 unfoldable pub range : ℕ → ℕ → List ℕ

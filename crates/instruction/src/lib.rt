@@ -72,12 +72,14 @@ pub enum Instruction {
 }
 
 // The table, for a caller to keep over many calls.
+#[tactic(auto, unfolding(crate::specs::Table::table_of))]
 pub fn table() -> [u16; slot::COUNT]
     ensures { result ≡ table_of }
 {
     TABLE
 }
 
+#[tactic(auto, unfolding(crate::specs::Decode::generic_in))]
 fn generic(table: &[u16; slot::COUNT], w: u16) -> Instruction
     ensures { result ≡ generic_in table.now w }
 {
@@ -111,6 +113,7 @@ fn is_shift(kind: u16, field: u16) -> bool
     field == 49 && (kind == LRS || kind == LLS)
 }
 
+#[tactic(auto, unfolding(crate::specs::Decode::shift_of))]
 fn shift(w: u16) -> Instruction
     ensures { result ≡ shift_of w }
 {
@@ -128,6 +131,7 @@ fn shift(w: u16) -> Instruction
 
 // The opcode is not 0. Between IRS and MPY there is LDX alone, whose tag is its own and does not add X. It is asked for first: with one test of
 // that range every other opcode would take longer.
+#[tactic(auto, unfolding(crate::proofs::Members::range, crate::specs::Decode::memory_of))]
 fn memory(w: u16) -> Instruction
     requires { 0 < opcode_of w }
     ensures { result ≡ memory_of w }
@@ -154,6 +158,7 @@ fn memory(w: u16) -> Instruction
 }
 
 // The instruction that a word is, by a table as `table` gives it.
+#[tactic(auto, unfolding(crate::specs::Decode::decode_in))]
 pub fn decode(table: &[u16; slot::COUNT], w: u16) -> Instruction
     ensures { result ≡ decode_in table.now w }
 {
@@ -167,6 +172,7 @@ pub fn decode(table: &[u16; slot::COUNT], w: u16) -> Instruction
 }
 
 // The word of a memory-reference instruction (I1). For LDX it is asked for with its tag set.
+#[tactic(auto, unfolding(crate::specs::Encode::memory_word))]
 pub fn encode_memory(opcode: u16, indirect: bool, tag: bool, sector: bool, address: u16) -> u16
     ensures { result ≡ memory_word opcode indirect tag sector address }
 {
@@ -178,6 +184,7 @@ pub fn encode_memory(opcode: u16, indirect: bool, tag: bool, sector: bool, addre
 }
 
 // The word of a shift (I11, I18).
+#[tactic(auto, unfolding(crate::specs::Encode::shift_word))]
 pub fn encode_shift(kind: u16, amount: u16) -> u16
     ensures { result ≡ shift_word kind amount }
 {
@@ -185,6 +192,7 @@ pub fn encode_shift(kind: u16, amount: u16) -> u16
 }
 
 // The decoder and the instruction set agree: this function carries the theorem as its contract.
+#[tactic(auto, using(crate::proofs::Encoding::table_laws_laws))]
 pub fn table_laws()
     ensures { Agreement }
 {}

@@ -68,3 +68,7 @@ step_made image l (failed f) {n} e d = cc
 pub step_failed : (image l : List ℕ) (x : Step) {f : ℕ} → stepped_of x ≡ Failed f → l ≡ image_left image x → (x ≡ failed f) × (l ≡ image)
 step_failed image l (made t) {f} e d = (cc, cc)
 step_failed image l (failed g) {f} e d = (cc, cc)
+
+pub ruleset make_steps_laws = (step_good, step_made, step_failed)
+
+pub ruleset step_step_laws = (step_of)

@@ -60,3 +60,5 @@ run_onward b i w s₀ s {t} r h l e =
 pub run_ended : (b i : ℕ) (w : Work) (s₀ s : State) {o : Outcome} → run_from b s₀ ≡ more w (run_from (b - i) s) → run_from (b - i) s ≡ idle o s
     → run_from b s₀ ≡ ran w o s
 run_ended b i w s₀ s {o} r e = r ∙ ap (more w) e ∙ ap (λ (u : Work). ran u o s) (add_work_none w)
+
+pub ruleset make_steps_laws = (run_halted, run_spent, run_failed, run_start, run_onward, run_ended)

@@ -29,3 +29,5 @@ counts_after q (suc n) k l h =
     ∙ set-set k.counts i ((m + n) % 2 ^ 32) (tick (get_or (set k.counts i ((m + n) % 2 ^ 32)) i 0))
     ∙ ap (λ (v : ℕ). set k.counts i (tick v)) (get_or-set_same k.counts i ((m + n) % 2 ^ 32) 0 l)
     ∙ ap (set k.counts i) (added_one m n)
+
+pub ruleset clock_after_laws = (common_after, counts_after)

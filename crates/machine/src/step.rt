@@ -54,6 +54,7 @@ fn increment(image: &mut [u16], m: Machine, e: u16) -> Machine
 }
 
 // A memory-reference instruction at its effective address e.
+#[tactic(auto, using(word::proofs::Bounds::compare_below), unfolding(crate::specs::Step::memory_def))]
 fn memory(image: &mut [u16], m: Machine, opcode: u16, e: u16) -> Machine
     requires { (length image.old ≡ 16384) × (m.p < 16384) × (e < 16384) }
     ensures { Leaves (memory_def opcode e m image.old) result image.new }
@@ -80,6 +81,7 @@ fn memory(image: &mut [u16], m: Machine, opcode: u16, e: u16) -> Machine
     }
 }
 
+#[tactic(auto, unfolding(crate::specs::Step::generic_def))]
 fn generic(m: Machine, slot: usize) -> Machine
     requires { m.p < 16384 }
     ensures { result ≡ generic_def slot m }
@@ -94,6 +96,7 @@ fn generic(m: Machine, slot: usize) -> Machine
     advance(m, effect::unary(slot, r), skipped)
 }
 
+#[tactic(auto, using(instruction::proofs::Proper::decode_proper, instruction::proofs::Rows::decode_with, crate::proofs::Chains::step_step_laws, crate::proofs::Good::step_step_laws))]
 pub fn step(table: &[u16; slot::COUNT], image: &mut [u16], m: Machine) -> Stepped
     requires { (table.now ≡ table_of) × (length image.old ≡ 16384) × (m.p < 16384) }
     ensures { Makes image.old (step_def (state m image.old)) result image.new }

@@ -26,6 +26,7 @@ fn lower(own: u16, number: u16) -> u16
 }
 
 // The number of a failure at a token, which may carry one of its own.
+#[tactic(auto, unfolding(source::specs::Tokens::failure_at))]
 fn failure(t: Token, number: u16) -> u16
     ensures { result ≡ failure_at t number }
 {
@@ -49,6 +50,7 @@ pub fn fail_at(t: Token, number: u16) -> Part
 }
 
 // The token of a kind, or failure 6 (J6).
+#[tactic(auto, unfolding(grammar::specs::Parse::expect, crate::specs::Answers::part_of, grammar::specs::Parse::fail_at))]
 pub fn expect(source: &[u8], kind: u16, at: usize) -> Part
     ensures { result ≡ part_of (expect_def kind source.now at) }
 {
@@ -60,6 +62,7 @@ pub fn expect(source: &[u8], kind: u16, at: usize) -> Part
 }
 
 // A token that nothing allowed there begins with (J5).
+#[tactic(auto, unfolding(grammar::specs::Cells::refuse, crate::specs::Answers::part_of, grammar::specs::Parse::fail_at))]
 pub fn refused(t: Token) -> Part
     ensures { result ≡ part_of {A = ℕ} (refuse t) }
 {

@@ -34,3 +34,5 @@ run_laws = record {
   halts = halts;
   all_made = all_made;
 }
+
+pub ruleset run_laws_laws = (run_laws)

@@ -69,3 +69,11 @@ module _ (s : List ℕ) (at : ℕ) (h : at < length s) where
 pub after : (f : List ℕ → ℕ → Token) (s : List ℕ) (at i : ℕ) → i ≡ at + span is_blank (drop at s) → f (drop i s) i ≡ after_blanks f s at
 unfolding after_blanks
 after f s at i e = rw (drop-drop, ← e)
+
+pub ruleset operator_at_laws = (after)
+
+pub ruleset operator_of_laws = (operator_ended, minus, other)
+
+pub ruleset token_at_laws = (after)
+
+pub ruleset token_of_laws = (ended, name, decimal, negative, octal, keyword, sign)

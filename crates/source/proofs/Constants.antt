@@ -70,3 +70,9 @@ module _ (s : List ℕ) (at next : ℕ) (none : next ≡ at + 1) where
   pub quote_alone : next ≡ at + 1 + span is_octal_digit (drop (at + 1) s) → record { kind = Kinds.quote; value = 0; at = at; next = next } ≡ octal_token (drop (at + 1) s) at
   unfolding octal_token
   quote_alone e = rw (eq-eqb (span is_octal_digit (drop (at + 1) s)) 0 (omega arith), none)
+
+pub ruleset constant_decimal_at_laws = (decimal)
+
+pub ruleset constant_negative_at_laws = (negative, minus_alone)
+
+pub ruleset constant_octal_at_laws = (octal, quote_alone)

@@ -107,3 +107,11 @@ whole s at next kind e q =
     let w : next - (at + 1) ≡ keyword_length (drop (at + 1) s) = omega arith in
     let n : at + suc (keyword_length (drop (at + 1) s)) ≡ next = omega arith in
     rw (q, w, n)
+
+pub ruleset keyword_digit_end_laws = (one_digit, other_byte, no_byte)
+
+pub ruleset keyword_keyword_at_laws = (whole)
+
+pub ruleset keyword_keyword_end_laws = (sense, letters_only)
+
+pub ruleset keyword_keyword_kind_laws = (in_order, in_letters, letters_of, from_first, found, next, none)

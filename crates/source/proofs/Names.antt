@@ -23,3 +23,5 @@ module _ (s : List ℕ) (t : Token) (i : ℕ) where
   pub byte_of : i < 6 → i < t.next - t.at → get_or s (t.at + i) 0 ≡ get_or (name_of s t) i 0
   unfolding name_of
   byte_of l h = rw (get_or-take 6 (spelling s t) i 0 l, get_or-take (t.next - t.at) (drop t.at s) i 0 h, get_or-drop)
+
+pub ruleset byte_name_byte_laws = (seventh, past_end, byte_of)

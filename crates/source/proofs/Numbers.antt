@@ -38,3 +38,5 @@ module _ (base : ℕ) (some : 0 < base) where
 pub done : (base : ℕ) (s : List ℕ) (i to n : ℕ) → to ≤ i → to ≤ length s → number base n (slice i to s) ≡ n
 unfolding number
 done base s i to n h k = let l : length (take to s) ≤ i = omega (arith, length-take-le to s k) in rw (drop_of_length-le (take to s) l)
+
+pub ruleset number_number_of_laws = (next, done)

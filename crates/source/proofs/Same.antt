@@ -46,3 +46,5 @@ equal (x ∷ a) (y ∷ b) t = go (eqb x y) refl (equal a b) t
     go : (u : Bool) → eqb x y ≡ u → (T (same_bytes a b) → a ≡ b) → T (whether u (λ _. same_bytes a b) (λ _. false)) → x ∷ a ≡ y ∷ b
     go true e f t = let h = eqb-true x y e in let r = f t in cc
     go false e f t = absurd t
+
+pub ruleset keyword_same_laws = (lengths, on, differ, ended)

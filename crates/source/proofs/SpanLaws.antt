@@ -35,3 +35,13 @@ most p (b ∷ bs) = go (p b) (most p bs)
 -- a span from an offset in the source ends in the source
 pub within : (p : ℕ → Bool) (s : List ℕ) (i : ℕ) → i ≤ length s → i + span p (drop i s) ≤ length s
 within p s i h = omega (arith, most p (drop i s), length-drop i s)
+
+pub ruleset constant_decimal_at_laws = (within)
+
+pub ruleset constant_negative_at_laws = (within)
+
+pub ruleset constant_octal_at_laws = (within)
+
+pub ruleset keyword_keyword_end_laws = (within)
+
+pub ruleset span_span_end_laws = (on, stops, ends)

@@ -6,6 +6,7 @@ use crate::span::Class;
 use crate::{Token, kind, number, span};
 
 // The word counts only where the number is up to the limit.
+#[tactic(auto, unfolding(crate::specs::Tokens::constant_token))]
 fn constant(n: u32, limit: u32, word: u32, at: usize, next: usize) -> Token
     requires { (at ≤ next) × (n ≤ limit → word < 65536) }
     ensures { result ≡ constant_token n limit word at (next - at) }
@@ -27,6 +28,7 @@ fn constant(n: u32, limit: u32, word: u32, at: usize, next: usize) -> Token
 }
 
 // From its first digit on.
+#[tactic(auto, using(crate::proofs::SpanLaws::constant_decimal_at_laws, crate::proofs::Constants::constant_decimal_at_laws))]
 pub fn decimal_at(source: &[u8], at: usize) -> Token
     requires { at ≤ length source.now }
     ensures { result ≡ decimal_token (drop at source.now) at }
@@ -37,6 +39,7 @@ pub fn decimal_at(source: &[u8], at: usize) -> Token
 }
 
 // From its minus on, which is the sign where no digit follows.
+#[tactic(auto, using(crate::proofs::SpanLaws::constant_negative_at_laws, crate::proofs::Constants::constant_negative_at_laws))]
 pub fn negative_at(source: &[u8], at: usize) -> Token
     requires { at < length source.now }
     ensures { result ≡ negative_token (drop (at + 1) source.now) at }
@@ -56,6 +59,7 @@ pub fn negative_at(source: &[u8], at: usize) -> Token
 }
 
 // From its quote on, which is the sign where no octal digit follows.
+#[tactic(auto, using(crate::proofs::SpanLaws::constant_octal_at_laws, crate::proofs::Constants::constant_octal_at_laws))]
 pub fn octal_at(source: &[u8], at: usize) -> Token
     requires { at < length source.now }
     ensures { result ≡ octal_token (drop (at + 1) source.now) at }

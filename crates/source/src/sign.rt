@@ -16,6 +16,7 @@ fn sign(kind: u16, width: usize) -> Token
     }
 }
 
+#[tactic(auto, unfolding(crate::specs::Tokens::sign_token, prelude::specs::Choice::find, crate::specs::Bytes::starts_with))]
 fn less(second: u8) -> Token
     ensures { result ≡ sign_token (60 ∷ second ∷ []) 0 }
 {
@@ -28,6 +29,7 @@ fn less(second: u8) -> Token
     sign(kind::LESS, 1)
 }
 
+#[tactic(auto, unfolding(crate::specs::Tokens::sign_token, prelude::specs::Choice::find, crate::specs::Bytes::starts_with))]
 fn greater(second: u8) -> Token
     ensures { result ≡ sign_token (62 ∷ second ∷ []) 0 }
 {
@@ -38,6 +40,7 @@ fn greater(second: u8) -> Token
 }
 
 // The sign that two bytes begin with, as if it stood at offset 0.
+#[tactic(auto, using(crate::proofs::Signs::sign_sign_of_laws))]
 fn sign_of(first: u8, second: u8) -> Token
     ensures { result ≡ sign_token (first ∷ second ∷ []) 0 }
 {
@@ -60,6 +63,7 @@ fn sign_of(first: u8, second: u8) -> Token
     }
 }
 
+#[tactic(auto, using(crate::proofs::Signs::sign_sign_at_laws))]
 pub fn sign_at(source: &[u8], at: usize) -> Token
     requires { at < length source.now }
     ensures { result ≡ sign_token (drop at source.now) at }

@@ -154,3 +154,7 @@ packing_laws =
       tokens = λ source i j h k. six_decide _ _ (name_all source i (eq-eqb _ _ h)) (name_all source j (eq-eqb _ _ k));
       cut = six_cut;
     }
+
+pub ruleset lookup_lookup_laws = (name_unpacked)
+
+pub ruleset packing_laws_laws = (packing_laws)

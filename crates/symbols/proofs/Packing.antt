@@ -192,3 +192,7 @@ six_decide n m h k =
 pub x_packed : (p : Packed) → is_x (unpack p) ≡ same_packed p (record { one = 0o054000; two = 0; three = 0 })
 unfolding is_x unpack trimmed before_trimmed
 x_packed p = sym (same_unpacked p (record { one = 0o054000; two = 0; three = 0 }))
+
+pub ruleset is_x_laws = (x_packed)
+
+pub ruleset newest_laws = (same_unpacked)

@@ -146,3 +146,7 @@ module _ (n : ℕ) (t : List ℕ) (name : Packed) (level : ℕ) (symbol : Symbol
   pub declared_full : length t / 7 ≤ n → Entered n t name level symbol t
   unfolding table_with
   declared_full h = record { words = rw (le-ltb n (length t / 7) h); newest = λ l. absurd (omega arith); kept = refl }
+
+pub ruleset declare_laws = (declared_room, declared_full)
+
+pub ruleset newest_laws = (held_all)

@@ -118,6 +118,7 @@ fn pair_of(source: &[u8], name: Token, i: usize) -> u16
 }
 
 // A name's token, packed.
+#[tactic(auto, unfolding(crate::specs::Packing::pack_of))]
 pub fn pack(source: &[u8], name: Token) -> Packed
     ensures { result ≡ pack_of (name_of source.now name) }
 {
@@ -129,6 +130,7 @@ pub fn pack(source: &[u8], name: Token) -> Packed
 }
 
 // Which names pack alike: those whose first six characters are the same, all of them where there are fewer (T14).
+#[tactic(auto, using(crate::proofs::PackedTokens::packing_laws_laws))]
 pub fn packing_laws()
     ensures { PackingLaws }
 {}
@@ -146,6 +148,7 @@ fn is_x(name: Packed) -> bool
 }
 
 // The id of a number at a level.
+#[tactic(auto, unfolding(tree::specs::Symbols::next_id, crate::specs::Table::level_of, crate::specs::Trees::tree_id))]
 pub fn id_of(level: u16, number: u16) -> Id
     ensures { tree_id result ≡ next_id (level_of level) number }
 {
@@ -157,6 +160,7 @@ pub fn id_of(level: u16, number: u16) -> Id
 }
 
 // What an id counts at its level.
+#[tactic(auto, unfolding(crate::specs::Trees::tree_id, crate::specs::Table::number_of))]
 fn number_of(id: Id) -> u16
     ensures { result ≡ number_of (tree_id id) }
 {
@@ -171,6 +175,7 @@ fn number_of(id: Id) -> u16
 }
 
 // The words of a symbol.
+#[tactic(auto, unfolding(crate::specs::Trees::tree_symbol, crate::specs::Table::data_of))]
 fn data_of(symbol: Symbol) -> Data
     ensures { result ≡ data_of (tree_symbol symbol) }
 {
@@ -212,6 +217,7 @@ fn data_of(symbol: Symbol) -> Data
 }
 
 // Whether the entry at an offset has the name.
+#[tactic(auto, unfolding(crate::specs::Packing::same_packed))]
 fn is_named(table: &[u16], at: usize, name: Packed) -> bool
     requires { at + entry_words ≤ length table.now }
     ensures { result ≡ same_packed name (packed_at table.now at) }
@@ -225,6 +231,7 @@ fn is_named(table: &[u16], at: usize, name: Packed) -> bool
 }
 
 // What the entry at an offset stands for; words that no symbol has give Unknown.
+#[tactic(auto, unfolding(crate::specs::Trees::tree_symbol, crate::specs::Table::entry_at, crate::specs::Table::symbol_from))]
 fn symbol_at(table: &[u16], at: usize) -> Symbol
     requires { at + entry_words ≤ length table.now }
     ensures { tree_symbol result ≡ (entry_at table.now at).symbol }
@@ -265,6 +272,7 @@ fn symbol_at(table: &[u16], at: usize) -> Symbol
 }
 
 // The row of a number, counted from 0, so that a table can be read in order of declaration; past its end no characters, and nothing known.
+#[tactic(auto, unfolding(crate::specs::Table::row_of, crate::specs::Packing::unpack, crate::specs::Packing::trimmed, crate::specs::Packing::before_trimmed, crate::specs::Trees::tree_symbol, crate::specs::Table::row_at))]
 pub fn row_at(table: &[u16], i: usize) -> Row
     ensures { (unpack result.name ≡ (row_of table.now i).0) × (tree_symbol result.symbol ≡ (row_of table.now i).1.symbol) }
 {
@@ -290,6 +298,7 @@ pub fn row_at(table: &[u16], i: usize) -> Row
 }
 
 // The number, from 1, of the newest of the first `count` entries with the name; 0 for none. A table too short for them has none.
+#[tactic(auto, using(crate::proofs::Packing::newest_laws, crate::proofs::Table::newest_laws), unfolding(crate::specs::Table::entries_of, crate::specs::Table::row_at, prelude::specs::Choice::find, crate::specs::Table::nth_in, crate::specs::Table::live_names))]
 fn newest(table: &[u16], count: usize, name: Packed) -> usize
     ensures { Newest count table.now name result }
 {
@@ -307,6 +316,7 @@ fn newest(table: &[u16], count: usize, name: Packed) -> usize
 }
 
 // What a name stands for, by the table's first `count` entries.
+#[tactic(auto, unfolding(tree::specs::Symbols::symbol_of, crate::specs::Trees::tree_symbol, crate::specs::Trees::tree_id, crate::specs::Table::nth_in, crate::specs::Table::row_at))]
 pub fn find(table: &[u16], count: usize, name: Packed) -> Symbol
     ensures { tree_symbol result ≡ symbol_of (live_names count table.now) (unpack name) }
 {
@@ -321,6 +331,7 @@ pub fn find(table: &[u16], count: usize, name: Packed) -> Symbol
 }
 
 // Whether a name is declared at a level, or X.
+#[tactic(auto, unfolding(tree::specs::Symbols::same_level, crate::specs::Table::level_of, tree::specs::Symbols::is_taken, crate::specs::Table::nth_in, crate::specs::Table::row_at, crate::specs::Table::entry_at))]
 pub fn is_taken(table: &[u16], count: usize, name: Packed, level: u16) -> bool
     ensures { result ≡ is_taken (record { names = live_names count table.now; level = level_of level; taken = 0 }) (unpack name) }
 {
@@ -340,6 +351,7 @@ pub fn is_taken(table: &[u16], count: usize, name: Packed, level: u16) -> bool
 
 // An entry above the first `count`, which stay; what stood above them is dropped. A table without room stays as it is.
 // An id in the entry is of the entry's level, whatever level the symbol's has.
+#[tactic(auto, using(crate::proofs::Table::declare_laws))]
 pub fn declare(table: &mut [u16], count: usize, name: Packed, level: u16, symbol: Symbol)
     ensures { Entered count table.old name level (tree_symbol symbol) table.new }
 {

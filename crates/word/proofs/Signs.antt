@@ -66,3 +66,5 @@ pub negative_changes : (n w : ℕ) → 32768 ≤ w → w < 65536 → sign_change
 negative_changes n w large fits =
     let q : 65536 - (65536 - w) ≡ w = omega arith in
     ap (sign_changes n) (sym q) ∙ magnitude_changes n (65536 - w) (omega arith) (omega arith)
+
+pub ruleset shift_sign_changes_laws = (positive_changes, negative_changes)

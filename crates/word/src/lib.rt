@@ -38,6 +38,7 @@ fn overflow(raised: u32) -> bool
     raised < 32768 || 98304 <= raised
 }
 
+#[tactic(auto, unfolding(crate::specs::Arithmetic::sum_of))]
 pub fn sum(a: u16, v: u16) -> Flagged
     ensures { result ≡ sum_of a v }
 {
@@ -47,6 +48,7 @@ pub fn sum(a: u16, v: u16) -> Flagged
     Flagged { word, flag }
 }
 
+#[tactic(auto, unfolding(crate::specs::Arithmetic::difference_of))]
 pub fn difference(a: u16, v: u16) -> Flagged
     ensures { result ≡ difference_of a v }
 {
@@ -57,6 +59,7 @@ pub fn difference(a: u16, v: u16) -> Flagged
 }
 
 // How many words CAS skips.
+#[tactic(auto, unfolding(crate::specs::Arithmetic::compare_of))]
 pub fn compare(a: u16, v: u16) -> u16
     ensures { result ≡ compare_of a v }
 {

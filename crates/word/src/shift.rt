@@ -101,6 +101,7 @@ fn logical_left(amount: u16, w: u16) -> Flagged
 }
 
 // The sign changes on the way exactly if the shifted magnitude does not fit.
+#[tactic(auto, using(crate::proofs::Signs::shift_sign_changes_laws))]
 fn sign_changes(amount: u16, w: u16) -> bool
     requires { amount ≤ 15 }
     ensures { result ≡ sign_changes amount w }
@@ -139,6 +140,7 @@ fn rotate_left(amount: u16, w: u16) -> Flagged
 }
 
 // The word w shifted; c is C before it, and stays where nothing is shifted.
+#[tactic(auto, unfolding(crate::specs::Shift::shift_of))]
 pub fn shift(kind: u16, amount: u16, w: u16, c: bool) -> Flagged
     ensures { result ≡ shift_of kind amount w c }
 {

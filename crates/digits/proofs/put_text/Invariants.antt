@@ -1,0 +1,13 @@
+use native.Mathlib.Omega.{arith}
+use Prim.Native.Nat.{◌-◌, ◌≤◌}
+use lib.ListN.{length, drop, drop_of_length-le}
+use Rattle.digits.proofs.Laws.{Left, begins, goes_on, is_whole, next_byte}
+use borrow.Author.Rules.{rules}
+use Rattle.digits.proofs.put_text.Given as goal
+
+-- The invariant: what is written, with the text from `i` on, gives the whole text.
+abbrev pub invariant-loop-i : goal.invariant-loop-i
+invariant-loop-i l = (l.i ≤ length l.text) × Left l.initial.out l.out l.at l.next (drop l.i l.text) l.text
+
+abbrev pub decreases-loop-i : goal.decreases-loop-i
+decreases-loop-i l = length l.text - l.i

@@ -1,0 +1,14 @@
+use mathlib.Core.Path.{◌≡◌, sym, ap, ◌∙◌}
+use Prim.Native.Nat.{◌-◌, ◌≤◌}
+use borrow.Author.Rules.{rules}
+use Rattle.source.specs.Bytes.{same_bytes}
+use Rattle.source.specs.Keywords.{keyword_kind}
+use Rattle.source.proofs.KeywordLaws.{in_order, in_letters, letters_of, kind_from, from_first, found, next, none}
+use Rattle.source.proofs.keyword.keyword_kind.Given as goal
+
+-- By the rules of the table. The invariant: the keywords from `k` on decide.
+abbrev pub invariant-loop-k : goal.invariant-loop-k
+invariant-loop-k l = (l.k ≤ 54) × (keyword_kind l.keyword ≡ kind_from l.keyword l.k)
+
+abbrev pub decreases-loop-k : goal.decreases-loop-k
+decreases-loop-k l = 54 - l.k
