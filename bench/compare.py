@@ -3,7 +3,7 @@
 
     python3 bench/compare.py OLD NEW [TIMES]
 
-OLD and NEW are target/bench of two checkouts, built by bench/run.sh; each is run ten times, or TIMES, one after the other. A build from
+OLD and NEW are out/bench of two checkouts, built by bench/run.sh; each is run ten times, or TIMES, one after the other. A build from
 before this script ignores `time`: it compares random runs too, and its figure is the median of five rounds. Each figure is a median, with
 the least and the largest in brackets: nanoseconds of processor time for a step of the proved machine, then its ratio to the plain one.
 """

@@ -1,10 +1,10 @@
-"""Times `compile` on sources of 8,192 bytes: target/bin/listing_vectors is run on 31 copies of a source and on one, and the difference is shared out.
-The time includes filling the lent words and writing the listing. Run it after `rt check listing_vectors`."""
+"""Times `compile` on sources of 8,192 bytes: crates/listing_vectors/out/listing_vectors is run on 31 copies of a source and on one, and the
+difference is shared out. The time includes filling the lent words and writing the listing. Run it after `(cd crates/listing_vectors && rt run <stdin >/dev/null)`, which builds that."""
 import pathlib
 import subprocess
 import time
 
-PROGRAM = pathlib.Path(__file__).parent.parent / "target" / "bin" / "listing_vectors"
+PROGRAM = pathlib.Path(__file__).parent.parent / "crates" / "listing_vectors" / "out" / "listing_vectors"
 LENGTH, COPIES, ROUNDS = 8192, 31, 40
 
 

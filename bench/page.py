@@ -1,12 +1,12 @@
-"""Times `page` on 1,000 farms with names of 14 bytes and 32,767 litres each: target/bin/page_vectors is run on 12 copies of that case, as many as it can read,
+"""Times `page` on 1,000 farms with names of 14 bytes and 32,767 litres each: crates/page_vectors/out/page_vectors is run on 12 copies of that case, as many as it can read,
 and on one, and the difference is shared out. The time includes reading the case, filling the output and writing the page; the program reads a file and writes to nowhere,
-since a pipe would take longer than the page. Run it after `rt check page_vectors`."""
+since a pipe would take longer than the page. Run it after `(cd crates/page_vectors && rt run <stdin >/dev/null)`, which builds that."""
 import pathlib
 import subprocess
 import tempfile
 import time
 
-PROGRAM = pathlib.Path(__file__).parent.parent / "target" / "bin" / "page_vectors"
+PROGRAM = pathlib.Path(__file__).parent.parent / "crates" / "page_vectors" / "out" / "page_vectors"
 FARMS, COPIES, ROUNDS = 1000, 12, 400
 
 NAMES = b"".join(b"FARM %09d\n" % i for i in range(FARMS))

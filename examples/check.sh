@@ -1,7 +1,7 @@
 #!/bin/sh
-# check.sh: holds the examples of docs/LANGUAGE.md and README.md to target/bin/run, and tries run at its edges.
+# check.sh: holds the examples of docs/LANGUAGE.md and README.md to crates/run/out/run, and tries run at its edges.
 #
-#     sh examples/check.sh        from the top of the repository, after `rt check run`
+#     sh examples/check.sh        from the top of the repository, after `(cd crates/run && rt run </dev/null)`
 #
 # (a) Each block ```pl516 NAME [TURNS SWITCHES] is the file NAME.pl516 of the data, and run prints for it the block ```text NAME,
 #     which also stands in the stored output of language_examples. Each file of the data has its blocks.
@@ -12,7 +12,7 @@ set -u
 pages='docs/LANGUAGE.md README.md'
 data=crates/language_examples/data
 stored=crates/language_examples/stdout
-run=target/bin/run
+run=crates/run/out/run
 # These sources are too long for the page: they have a text block only.
 long_sources='long names globals sector'
 
@@ -23,7 +23,7 @@ for needed in $pages "$stored"; do
     fi
 done
 if [ ! -x "$run" ]; then
-    echo "examples: $run is missing; 'rt check run' builds it"
+    echo "examples: $run is missing; '(cd crates/run && rt run </dev/null)' builds it"
     exit 1
 fi
 

@@ -104,7 +104,7 @@ def in_prose(line):
 
 def citations():
     """Every citation: the file, the line's number, and the numbers cited there."""
-    code = [path for suffix in ("antt", "rt", "edit") for path in sorted((TOP / "crates").rglob(f"*.{suffix}")) if "target" not in path.parts]
+    code = [path for suffix in ("antt", "rt", "edit") for path in sorted((TOP / "crates").rglob(f"*.{suffix}")) if "out" not in path.relative_to(TOP).parts]
     pages = [TOP / "README.md", *sorted((TOP / "docs").rglob("*.md")), *sorted((TOP / "tests").glob("*.md"))]
     for part, paths in ((in_comment, code), (in_prose, pages)):
         for path in paths:
