@@ -38,3 +38,7 @@ module _ (text : List ℕ) (left counter at : ℕ) (image : List ℕ) where
     where
       one_more : counter < left → left - counter ≡ suc (left - (counter + 1))
       one_more h = omega arith
+
+pub ruleset parse_number_laws = (ended, digit, other)
+
+pub ruleset parse_words_laws = (all_set, one_set)

@@ -30,6 +30,7 @@ fn appended(value: u32, digit: u8) -> u32
 }
 
 // A number that is missing is 0.
+#[tactic(auto, using(crate::proofs::Numbers::parse_number_laws))]
 pub fn parse_number(text: &[u8], at: usize) -> Number
     ensures { result ≡ number_from (drop at text.now) 0 at }
 {
@@ -108,6 +109,7 @@ pub fn parse_switches(text: &[u8], at: usize) -> StartSwitches
 }
 
 // Sets words of an image: their count, then the address and the value of each. Answers where the next number starts.
+#[tactic(auto, using(crate::proofs::Numbers::parse_words_laws))]
 pub fn parse_words(text: &[u8], at: usize, image: &mut [u16; 16384]) -> usize
     ensures { ((image.new, result) ≡ words_from text.now at image.old)
         × (length image.new ≡ length image.old) }
@@ -125,6 +127,7 @@ pub fn parse_words(text: &[u8], at: usize, image: &mut [u16; 16384]) -> usize
 }
 
 // Where a part of so many bytes ends, no further than the text.
+#[tactic(auto, unfolding(crate::specs::Cases::part_end))]
 pub fn part_end(text: &[u8], at: usize, size: u32) -> usize
     ensures { (result ≡ part_end (length text.now) at size) × (result ≤ length text.now) }
 {

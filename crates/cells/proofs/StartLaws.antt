@@ -66,3 +66,7 @@ module _ (source : List ℕ) (names : Names) (t : Token) where
   pub deep_term : (t.kind ≡ Kinds.IF → ⊥) → (t.kind < Kinds.ADDC) ⊎ (Kinds.ADDC + length unaries ≤ t.kind) → too_deep_expr source names t ≡ and_then (term_start source names t) (λ _ _. fail_at t 9)
   unfolding too_deep_expr
   deep_term n o = rw (ne_eqb t.kind Kinds.IF n) (out_of_rows _ _ t.kind counted_unaries o)
+
+pub ruleset starts_opening_of_laws = (no_opening)
+
+pub ruleset starts_too_deep_at_laws = (deep_if, deep_unary, deep_term)

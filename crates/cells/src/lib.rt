@@ -91,6 +91,7 @@ pub fn amount_at(source: &[u8], table: &[u16], names: usize, at: usize) -> Const
 }
 
 // The size that a constant gives: how far it is from 0, taken as signed (D6).
+#[tactic(auto, unfolding(grammar::specs::Declarations::size_of))]
 pub fn size_of(value: u16) -> u16
     ensures { result ≡ size_of value }
 {

@@ -51,6 +51,7 @@ fn cell_term_of(t: Token, symbol: Symbol) -> TermAnswer
 }
 
 // A term that is a call or begins like a cell, by what its first token stands for.
+#[tactic(auto, unfolding(parser::specs::Answers::read_or, crate::specs::Starts::term_by, tree::specs::Symbols::as_function, symbols::specs::Trees::tree_symbol, crate::specs::Answers::tree_term_start))]
 fn named_term_of(t: Token, symbol: Symbol) -> TermAnswer
     ensures { (result.part, tree_term_start result.start) ≡ read_or TermDef.zero_word (term_by (tree_symbol symbol) t) }
 {
@@ -69,6 +70,7 @@ fn named_term_of(t: Token, symbol: Symbol) -> TermAnswer
     cell_term_of(t, symbol)
 }
 
+#[tactic(auto, using(crate::proofs::StartNames::starts_term_start_at_laws), unfolding(grammar::specs::Expressions::term_start, parser::specs::Answers::read_or, crate::specs::Answers::tree_term_start))]
 pub fn term_start_at(source: &[u8], table: &[u16], names: usize, at: usize) -> TermAnswer
     ensures { (result.part, tree_term_start result.start)
         ≡ read_or TermDef.zero_word (term_start source.now (live_names names table.now) (token_at source.now at)) }
@@ -114,6 +116,7 @@ pub fn too_deep_at(source: &[u8], table: &[u16], names: usize, at: usize) -> Par
 }
 
 // A statement that does not begin with a name.
+#[tactic(auto, using(parser::proofs::Answers::refused_with, crate::proofs::StartLaws::starts_opening_of_laws), unfolding(crate::specs::Answers::tree_statement_start, crate::specs::Starts::opening, prelude::specs::Choice::find, parser::specs::Answers::read_or))]
 fn opening_of(t: Token) -> StatementAnswer
     ensures { (result.part, tree_statement_start result.start) ≡ read_or StatementDef.hash (opening t) }
 {

@@ -172,7 +172,7 @@ module _ {f : Bases} where
   pub words : {a : Emitted} (ws : List Sym) → Lays f a (emit_all f a ws) (λ _. ws)
   unfolding emit_all ◌⧺◌
   words [] = nothing
-  words (w ∷ ws) = sequence (word w) (words ws)
+  words {a = a} (w ∷ ws) = sequence (word w) (words {a = emit_word f a w} ws)
 
 -- ---- Forward jumps
 

@@ -58,6 +58,7 @@ pub struct Context {
     pub locals: u16,
 }
 
+#[tactic(auto, unfolding(crate::specs::Emitted::no_pool))]
 pub fn empty_pool() -> Pool
     ensures { result ≡ no_pool }
 {
@@ -80,6 +81,7 @@ pub fn held_count(pool: Pool) -> usize
 }
 
 // The place of a value in a pool, or how many words it holds.
+#[tactic(auto, using(crate::proofs::EmittedPools::index_of_laws))]
 fn index_of(pool: Pool, value: u16) -> usize
     ensures { (result ≡ index_of (literals_in pool) value) × (result ≤ sector_words) }
 {
@@ -113,6 +115,7 @@ fn with_literal(pool: Pool, value: u16) -> Pool
 }
 
 // The address after another, up to the last.
+#[tactic(auto, unfolding(layout::specs::Emission::next_address))]
 fn next_address(at: u16) -> u16
     ensures { result ≡ next_address at }
 {
@@ -129,6 +132,7 @@ pub fn store(image: &mut [u16], at: usize, word: u16)
 }
 
 // A word at the next address.
+#[tactic(auto, unfolding(layout::specs::Emission::with_word))]
 fn emit_word(image: &mut [u16], output: Output, word: u16) -> Output
     ensures { Puts output image.old result image.new word }
 {
@@ -142,6 +146,7 @@ fn emit_word(image: &mut [u16], output: Output, word: u16) -> Output
 }
 
 // The word of an instruction on an address: LDX has its tag set, and an address outside of sector 0 its sector bit (I2, A10).
+#[tactic(auto, unfolding(layout::specs::Map::reference))]
 fn reference(opcode: u16, indirect: bool, address: u32) -> u16
     ensures { result ≡ map.reference opcode indirect address }
 {
@@ -214,6 +219,7 @@ pub fn fill_jump(image: &mut [u16], hole: u16, target: u16)
 }
 
 // The address of an integer or a named constant.
+#[tactic(auto, unfolding(layout::specs::Map::address_of, symbols::specs::Trees::tree_operand, symbols::specs::Trees::tree_id))]
 fn id_address(context: Context, id: Id) -> u32
     ensures { result ≡ map.address_of (frame_of (bases_of context) []) (tree_operand (Operand.Named id)) }
 {
@@ -228,6 +234,7 @@ fn id_address(context: Context, id: Id) -> u32
 }
 
 // The address of an operand, with its literal in the pool.
+#[tactic(auto, unfolding(symbols::specs::Trees::tree_operand, layout::specs::Map::address_of))]
 fn address_of(context: Context, pool: Pool, operand: Operand) -> u32
     ensures { result ≡ map.address_of (frame_of (bases_of context) (literals_in pool)) (tree_operand operand) }
 {
@@ -238,6 +245,7 @@ fn address_of(context: Context, pool: Pool, operand: Operand) -> u32
 }
 
 // The pool with an operand's literal, if it is one.
+#[tactic(auto, unfolding(layout::specs::Emission::with_literals, crate::specs::Emitted::pooled_all, layout::specs::Pool::literal_of, symbols::specs::Trees::tree_operand))]
 fn with_operand(pool: Pool, operand: Operand) -> Pool
     ensures { Takes pool (literal_of (Sym.memory 0 (tree_operand operand)) []) result }
 {
@@ -269,6 +277,7 @@ pub fn emit_memory(
 }
 
 // A subscript to X, unless it is there (W2).
+#[tactic(auto, unfolding(symbols::specs::Trees::tree_subscript, layout::specs::Words::load_words))]
 fn emit_load(image: &mut [u16], context: Context, output: Output, subscript: Subscript) -> Output
     ensures { Emits (bases_of context) output image.old result image.new (load_words (tree_subscript subscript)) }
 {
@@ -342,6 +351,7 @@ pub fn emit_reach(image: &mut [u16], context: Context, output: Output, cell: Cel
 }
 
 // An instruction on a cell that is reached.
+#[tactic(auto, unfolding(symbols::specs::Trees::tree_cell, layout::specs::Words::instruction_word))]
 pub fn emit_instruction(
     image: &mut [u16],
     context: Context,

@@ -7,6 +7,7 @@ use source::byte::byte_at;
 
 const NEWLINE: u8 = b'\n';
 
+#[tactic(auto, unfolding(crate::specs::Place::newlines_before))]
 fn newlines_before(source: &[u8], at: usize) -> usize
     ensures { result ≡ newlines_before source.now at }
 {
@@ -23,6 +24,7 @@ fn newlines_before(source: &[u8], at: usize) -> usize
 }
 
 // Where the line of an offset begins: behind the newline before it, or at 0.
+#[tactic(auto, using(crate::proofs::Laws::place_line_start_laws))]
 pub fn line_start(source: &[u8], at: usize) -> usize
     ensures { (result ≡ line_start source.now at) × (result ≤ at) × (result ≤ length source.now) }
 {
@@ -49,6 +51,7 @@ pub fn column(source: &[u8], at: usize) -> usize
 }
 
 // Where the line that begins at an offset ends: at its newline, or with the source.
+#[tactic(auto, using(crate::proofs::Laws::place_line_end_laws))]
 pub fn line_end(source: &[u8], from: usize) -> usize
     requires { from ≤ length source.now }
     ensures { (result ≡ from + line_length (drop from source.now)) × (from ≤ result) × (result ≤ length source.now) }

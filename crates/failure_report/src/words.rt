@@ -4,6 +4,7 @@ ghost use Rattle.failure_report.specs.Failure.{words_of};
 
 use digits::put_text;
 
+#[tactic(auto, unfolding(crate::specs::Failure::words_of, prelude::specs::Choice::find))]
 pub fn put_words(out: &mut [u8], at: usize, number: u16) -> usize
     ensures { Wrote out.old out.new at result (words_of number) }
 {

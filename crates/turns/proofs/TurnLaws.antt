@@ -144,3 +144,5 @@ list (suc n) s = list_by n s (decided one_turn s)
 
 pub turn_laws : TurnLaws
 turn_laws = record { list = list; as_one = as_one; refusal = refusal }
+
+pub ruleset turns_are_runs_laws = (turn_laws)

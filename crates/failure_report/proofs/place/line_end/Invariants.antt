@@ -1,0 +1,15 @@
+use mathlib.Core.Path.{◌≡◌, refl, sym, ◌∙◌}
+use native.Mathlib.Omega.{arith}
+use Prim.Native.Nat.{◌+◌, ◌-◌, ◌≤◌}
+use lib.ListN.{length, drop}
+use borrow.Author.Rules.{rules}
+use Rattle.failure_report.specs.Place.{line_length}
+use Rattle.failure_report.proofs.Laws.{ends_here, ends_behind, ends_last}
+use Rattle.failure_report.proofs.place.line_end.Given as goal
+
+-- The invariant: the line from its start ends where it ends from `end` on.
+abbrev pub invariant-loop-end : goal.invariant-loop-end
+invariant-loop-end l = (l.from ≤ l.end) × (l.end ≤ length l.source) × (l.from + line_length (drop l.from l.source) ≡ l.end + line_length (drop l.end l.source))
+
+abbrev pub decreases-loop-end : goal.decreases-loop-end
+decreases-loop-end l = length l.source - l.end

@@ -1,0 +1,27 @@
+use Prim.Native.Nat.{◌≤◌, ◌-◌, ◌*◌}
+use mathlib.Core.Path.{◌≡◌, refl}
+use native.Mathlib.Omega.{arith}
+use borrow.Author.Rules.{rules}
+use lib.ListN.{length}
+use Rattle.machine.specs.State.{state}
+use Rattle.machine.specs.Run.{work, more}
+use Rattle.turns.specs.Turns.{turns_def}
+use Rattle.turns.proofs.Turns.{turn_reported, turns_start, turns_onward, turns_last, turns_done}
+use borrow.Enum.Refused.{opened}
+use Rattle.turns.proofs.run_turns.Goals as goal
+
+pub returns-in-Halted : goal.returns-in-Halted
+returns-in-Halted c = let l = c.loop in
+    let e = turns_last _ _ _ _ _ l.invariant.0 (omega arith) (turn_reported _ _ _ _ c.run-report.ensures) (opened c.in-Halted.in-Halted-own.keys2) in
+    rw e (refl, refl)
+
+pub loop-preserved : goal.loop-preserved
+loop-preserved c = let l = c.loop in (
+  turns_onward _ _ _ _ _ l.invariant.0 (omega arith) (turn_reported _ _ _ _ c.run-report.ensures) c.in-Spent.is,
+  search rules,
+  omega arith,
+  search rules,
+)
+
+pub returns : goal.returns
+returns c = rw (turns_done _ _ _ _ _ c.loop.invariant.0 c.loop-test.false) (refl, refl)
