@@ -106,7 +106,7 @@ module _ (p : Program) (w : WellFormed p) where
           top = omega arith;
           ids = reach name accumulator locals body h one two;
           literals = λ v k small.
-              let l : Literal p (allocate st d) v = in_pool p (allocate st d) c v (allocate st d).pool c.grown (all_held st.pool (literals_of ws) v k) in
+              let l : Literal p (allocate st d) v = in_pool p (allocate st d) c v (allocate st d).pool c.grown (all_held v st.pool (literals_of ws) k) in
               literal_reached st ks h.room cells plan v small l.here l.inside (omega (arith, c.after)) c.sector c.top;
         }
       where
@@ -152,7 +152,7 @@ module _ (p : Program) (w : WellFormed p) where
           top = omega arith;
           ids = reach h;
           literals = λ v k small.
-              let l : Literal p st v = in_pool p st c v (finish st p.main).pool q (all_held st.pool (literals_of ws) v k) in
+              let l : Literal p st v = in_pool p st c v (finish st p.main).pool q (all_held v st.pool (literals_of ws) k) in
               literal_reached st ks h.room cells plan v small l.here l.inside c.after c.sector c.top;
         }
       where

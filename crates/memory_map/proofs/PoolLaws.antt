@@ -120,11 +120,11 @@ all_among pool (u ∷ us) v l = by (head_or_rest u us v l) (all_among (added poo
     by (inl e) f = still_among v (added_all_end (added pool u) us) (subst (λ (w : ℕ). Among (added pool u) w) e (added_among pool u))
     by (inr l) f = f l
 
-pub all_held : (pool vs : List ℕ) (v : ℕ) → Memᴰ v vs → Among (added_all pool vs) v
+pub all_held : (v : ℕ) (pool vs : List ℕ) → Memᴰ v vs → Among (added_all pool vs) v
 unfolding added_all
-all_held pool vs v (Memᴰ.head {x = u} {xs = us} e) =
+all_held v pool vs (Memᴰ.head {x = u} {xs = us} e) =
     subst (λ (n : ℕ). Among (added_all (added pool u) us) n) (sym e) (still_among u (added_all_end (added pool u) us) (added_among pool u))
-all_held pool vs v (Memᴰ.tail {x = u} {xs = us} h) = all_held (added pool u) us v h
+all_held v pool vs (Memᴰ.tail {x = u} {xs = us} h) = all_held v (added pool u) us h
 
 -- and nothing else
 added_from : (pool : List ℕ) (u v : ℕ) → Among (added pool u) v → Among pool v ⊎ Among (u ∷ []) v

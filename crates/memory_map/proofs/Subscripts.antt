@@ -100,7 +100,7 @@ module _ (checked : Bool) where
   apart : (n : ℕ) (a : Array) (v : ℕ) → a.number ≡ n → From (suc n) (CellId.element a.number v) → ⊥
   apart n a v e r = omega (arith, r.least, r.of)
 
-  inside_of : {st : Allocation} (n : ℕ) (ds : List Declaration) → AllFit st ds → (a : Array) (v : ℕ)
+  inside_of : (n : ℕ) (ds : List Declaration) {st : Allocation} → AllFit st ds → (a : Array) (v : ℕ)
       → Memᴰ a (arrays n ds) → Memᴰ (CellId.element a.number v) (variables n ds) → is_inside a v ≡ true
   unfolding declared_by
   inside_of n [] f a v h k = absurd (Memᴰ.not-nil h)

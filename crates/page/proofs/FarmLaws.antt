@@ -154,3 +154,7 @@ unfolding lines_from
 no_lines total [] ls h = refl
 no_lines total (n ∷ ns) [] h = refl
 no_lines total (n ∷ ns) (l ∷ ls) h = absurd (omega (arith, h))
+
+pub ruleset judge_laws = (name_at_lem)
+
+pub ruleset put_lines_laws = (next, no_lines)

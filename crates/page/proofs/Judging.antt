@@ -249,3 +249,7 @@ answer_number names litres room f e = go (failure_of names litres room) (failure
     go : (o : Option ℕ) → Numbered o → given o Answer.Failed (λ _. Answer.Made (length (page_of names litres))) ≡ Answer.Failed f → (24 ≤ f) × (f ≤ 26)
     go (some g) h q = rw (ap number_in q) at h
     go none h q = absurd (false≢true (sym (ap is_made q)))
+
+pub ruleset judge_laws = (judging_starts, farm_failed, passed, judging_on, names_left, litres_left, none_left)
+
+pub ruleset page_laws = (fit, lines_written, none_written)

@@ -66,10 +66,10 @@ module _ (source : List ℕ) where
 
   -- ---- Integers, constants and compconstants
 
-  module _ (sc : Scope) {x : Context} (known : NamesOk x sc.names) where
+  module _ (sc : Scope) (x : Context) (known : NamesOk x sc.names) where
     values : (name : Name) (item : ℕ → Item) → ((v : ℕ) → IsWord v → ItemOk sc (name, item v)) → Parses source (ItemOk sc) (parse_value source sc name item)
     unfolding parse_value
-    values name item k at h = skipped Kinds.equal h (λ n h. and_then_lem (constants source known n h) (λ v p m h. fine (k v p) h))
+    values name item k at h = skipped Kinds.equal h (λ n h. and_then_lem (constants source x known n h) (λ v p m h. fine (k v p) h))
 
     items_from : (word : ItemKeyword) (name : Name) → item_limit word sc ≡ 0 → Parses source (ItemOk sc) (item_from source word sc name)
     unfolding item_from item_limit
@@ -91,7 +91,7 @@ module _ (source : List ℕ) where
     local_items_lem : (word : ItemKeyword) (done : List (Name × Item)) → LocalsOk done → Parses source LocalsOk (parse_local source (local_scope sc name) word done)
     unfolding parse_local
     local_items_lem word done p at h =
-        and_then_lem (items (foldl declare_item (local_scope sc name) done) (body_names ks sc name done known p) word at h)
+        and_then_lem (items (foldl declare_item (local_scope sc name) done) _ (body_names ks sc name done known p) word at h)
         (λ item q n h. fine (all_snoc _ done item p q.0) h)
 
     locals : Parses source LocalsOk (parse_locals source (local_scope sc name))
@@ -102,11 +102,11 @@ module _ (source : List ℕ) where
 
   -- ---- Declarations
 
-  module _ {x : Context} {names : Names} (known : NamesOk x names) (size : ℕ) where
+  module _ (x : Context) {names : Names} (known : NamesOk x names) (size : ℕ) where
     initial : (values : List ℕ) → ValuesOk size values → Parses source (ValuesOk size) (parse_initial source names size values)
     unfolding parse_initial
     initial values p at h =
-        judged source known h (λ b v q n k. either (ltb (length values) size)
+        judged source x known h (λ b v q n k. either (ltb (length values) size)
         (λ e. let l = ltb-true (length values) size e in fine (simp length-append (omega arith), all_snoc _ values v p.1 q) k)
         (λ e. fails (token_held source h) 14 b (omega arith) (omega arith)))
 
@@ -132,7 +132,7 @@ module _ (source : List ℕ) where
     unfolding parse_global
     globals word ds d at h =
         let k = declared d.0 in
-        and_then_lem (items (allocated ds).scope k.names word at h)
+        and_then_lem (items (allocated ds).scope _ k.names word at h)
         (λ item p n h. fine (read_more ds (Declaration.item item.0 item.1) d (p.0, p.1 k.level k.few) tt) h)
 
     arrays : (ds : List Declaration) → Read checked ds → Parses source (Read checked) (parse_array source checked ds)
@@ -142,10 +142,10 @@ module _ (source : List ℕ) where
         let st = allocated ds in
         and_then_lem (new_name_lem st.scope (name_limit st.scope) (name_limit_lem st.scope) (token_held source h)) (λ name z n h.
         skipped Kinds.left_bracket h (λ m h.
-        and_then_lem (in_range source k.names (λ v. leb (size_of v) 8192) m h) (λ v q l h.
+        and_then_lem (in_range source _ k.names (λ v. leb (size_of v) 8192) m h) (λ v q l h.
         expected Kinds.right_bracket h (λ t i e j h.
         limited (array_limit st (size_of v)) i (begun e) (λ y.
-        and_then_lem (initials k.names (size_of v) j h) (λ values p r h.
+        and_then_lem (initials _ k.names (size_of v) j h) (λ values p r h.
         fine (read_more ds (Declaration.array name (size_of v) checked values) d (omega (arith, room st.scope k.level z), leb-true (size_of v) 8192 q, p.0, p.1, y) refl) h))))))
 
     -- a declaration that is judged at its last token
@@ -163,7 +163,7 @@ module _ (source : List ℕ) where
         skipped Kinds.semicolon h (λ m h.
         skipped Kinds.BEGIN h (λ l h.
         and_then_lem (locals (kinds_of ds) sc name k.names l h) (λ ls p j h.
-        and_then_lem (outermost source (body_names (kinds_of ds) sc name ls k.names p) j h) (λ body q r h.
+        and_then_lem (outermost source _ (body_names (kinds_of ds) sc name ls k.names p) j h) (λ body q r h.
         expected Kinds.END h (λ t i e _ _.
         judged_declaration ds (Declaration.procedure name accumulator ls body) d tt (λ y. (room sc k.level z, p, q, y)) i (begun e)))))))
 
@@ -195,7 +195,7 @@ module _ (source : List ℕ) where
     pub mains : (ds : List Declaration) → Read checked ds → Parses source WellFormed (parse_main source checked ds)
     unfolding parse_main
     mains ds d at h =
-        and_then_lem (outermost source (declared d.0).names at h) (λ main p n h.
+        and_then_lem (outermost source _ (declared d.0).names at h) (λ main p n h.
         expected Kinds.END h (λ t i e m h.
         limited (main_limit_lem (allocated ds) main) i (begun e) (λ z.
         skipped Kinds.end_of_source h (λ l h. fine (record { declarations = d.0; flags = d.1; main = p; fits = z }) h))))

@@ -40,14 +40,14 @@ unfolding refuse
 refused {t = t} i =
     either (is Kinds.name t) (λ e. fails i 7 (begun (eqb-true t.kind Kinds.name e)) (omega arith) (omega arith)) (λ e. not_allowed i)
 
-module _ (source : List ℕ) {x : Context} {names : Names} (known : NamesOk x names) where
+module _ (source : List ℕ) (x : Context) {names : Names} (known : NamesOk x names) where
   -- ---- Cells
 
   constant_of_lem : {t : Token} → Held source t → Parsed source IsWord (constant_of source names t)
   unfolding constant_of
   constant_of_lem {t = t} i =
       either (is Kinds.numeral t) (λ e. fine i.word i.after)
-      (λ e. named source known as_constant t (λ s u. u.constant) (λ v p. fine p i.after) (refused i))
+      (λ e. named source x known as_constant t (λ s u. u.constant) (λ v p. fine p i.after) (refused i))
 
   pub constants : Parses source IsWord (parse_constant source names)
   unfolding parse_constant
@@ -74,7 +74,7 @@ module _ (source : List ℕ) {x : Context} {names : Names} (known : NamesOk x na
   unfolding operand_of
   operands {t = t} i =
       either (is Kinds.numeral t) (λ e. fine i.word i.after)
-      (λ e. named source known as_operand t (λ s u. u.operand) (λ o p. fine p i.after) (refused i))
+      (λ e. named source x known as_operand t (λ s u. u.operand) (λ o p. fine p i.after) (refused i))
 
   subscript_of_lem : {t : Token} → Held source t → Parsed source (SubscriptOk x) (subscript_of source names t)
   unfolding subscript_of
@@ -93,7 +93,7 @@ module _ (source : List ℕ) {x : Context} {names : Names} (known : NamesOk x na
 
   cell_starts : {t : Token} → Held source t → Parsed source StartOk (cell_start source names t)
   unfolding cell_start
-  cell_starts {t = t} i = named source known as_array t (λ s u. u.array) (λ a p. fine p i.after) (and_then_lem (operands i) (λ o p n h. fine p h))
+  cell_starts {t = t} i = named source x known as_array t (λ s u. u.array) (λ a p. fine p i.after) (and_then_lem (operands i) (λ o p n h. fine p h))
 
   cells_from : (start : CellStart) → StartOk start → Parses source (CellOk x) (cell_from source names start)
   unfolding cell_from
@@ -123,7 +123,7 @@ module _ (source : List ℕ) {x : Context} {names : Names} (known : NamesOk x na
       either (is Kinds.at t) (λ e. fine tt i.after)
       (λ e. either (is Kinds.ZERO t) (λ e. fine tt i.after)
       (λ e. either (is Kinds.left_parenthesis t) (λ e. fine tt i.after)
-      (λ e. named source known as_function t (λ s u. u.function) (λ q p. fine p i.after)
+      (λ e. named source x known as_function t (λ s u. u.function) (λ q p. fine p i.after)
       (and_then_lem (cell_starts i) (λ c p n h. fine p h)))))
 
   unary_words_lem : Parses source Any (parse_unaries source names)

@@ -48,7 +48,7 @@ uses x (Symbol.procedure p true) h = record { constant = nothing; integer = noth
 uses x (Symbol.procedure p false) h = record { constant = nothing; integer = nothing; operand = nothing; array = nothing; procedure = there h; function = nothing }
 uses x Symbol.unknown h = record { constant = nothing; integer = nothing; operand = nothing; array = nothing; procedure = nothing; function = nothing }
 
-module _ (source : List ℕ) {x : Context} {names : Names} (known : NamesOk x names) where
+module _ (source : List ℕ) (x : Context) {names : Names} (known : NamesOk x names) where
   symbol_ok : (name : Name) → SymbolOk x (symbol_of names name)
   unfolding symbol_of
   symbol_ok name = choice (SymbolOk x) (is_x name) _ _ (λ e. tt) (λ e. if_found (SymbolOk x) (same_bytes name) _ _ known (λ n entry e p. p) tt)

@@ -18,7 +18,7 @@ use Rattle.parsing_laws.proofs.Parsed.Parts.{Parsed, fine, Parses, Ended, Held, 
 use Rattle.parsing_laws.proofs.Parsed.Names.{NamesOk, named}
 use Rattle.parsing_laws.proofs.Parsed.Forms.{refused, subscripts, lone_cells, calls, conditions, expressions}
 
-module _ (source : List ℕ) {x : Context} {names : Names} (known : NamesOk x names) where
+module _ (source : List ℕ) (x : Context) {names : Names} (known : NamesOk x names) where
   abbrev StartOk : StmtStart → Type 0
   StartOk (StmtStart.integer i) = IdOk x i
   StartOk (StmtStart.element a) = ArrayOk x a
@@ -37,9 +37,9 @@ module _ (source : List ℕ) {x : Context} {names : Names} (known : NamesOk x na
   starts : {t : Token} → Held source t → Parsed source StartOk (stmt_start source names t)
   unfolding stmt_start
   starts {t = t} i =
-      named source known as_integer t (λ s u. u.integer) (λ a p. fine p i.after)
-      (named source known as_array t (λ s u. u.array) (λ a p. fine p i.after)
-      (named source known as_procedure t (λ s u. u.procedure) (λ a p. fine p i.after)
+      named source x known as_integer t (λ s u. u.integer) (λ a p. fine p i.after)
+      (named source x known as_array t (λ s u. u.array) (λ a p. fine p i.after)
+      (named source x known as_procedure t (λ s u. u.procedure) (λ a p. fine p i.after)
       (row_of (Parsed source StartOk) t _ _ opening_rows (λ s p. fine p i.after) (refused i))))
 
   -- the forms, with the parsers of their expressions and of the statements in them
@@ -53,16 +53,16 @@ module _ (source : List ℕ) {x : Context} {names : Names} (known : NamesOk x na
 
     element : (a : Array) → ArrayOk x a → Parses source R (parse_element source names expr a)
     unfolding parse_element
-    element a p at h = and_then_lem (subscripts source known at h) (λ s q. assigned (Stmt.assign (Target.item a s)) (λ e r. ((p, q), r)))
+    element a p at h = and_then_lem (subscripts source x known at h) (λ s q. assigned (Stmt.assign (Target.item a s)) (λ e r. ((p, q), r)))
 
     set_x_lem : Parses source R (parse_set_x source names)
     unfolding parse_set_x
-    set_x_lem at h = skipped Kinds.equal h (λ n h. and_then_lem (lone_cells source known n h) (λ c p m h. fine p h))
+    set_x_lem at h = skipped Kinds.equal h (λ n h. and_then_lem (lone_cells source x known n h) (λ c p m h. fine p h))
 
     guarded : (word : ℕ) → Parses source (λ (part : Cond × Stmt). CondOk x P part.0 × Q part.1) (parse_guarded source names expr inner word)
     unfolding parse_guarded
     guarded word at h =
-        and_then_lem (conditions source known exprs at h) (λ c p n h.
+        and_then_lem (conditions source x known exprs at h) (λ c p n h.
         skipped word h (λ m h.
         and_then_lem (stmts m h) (λ s q k h. fine (p, q) h)))
 
@@ -91,13 +91,13 @@ module _ (source : List ℕ) {x : Context} {names : Names} (known : NamesOk x na
 
     for_x_lem : Parses source R (parse_for_x source names inner)
     unfolding parse_for_x
-    for_x_lem at h = skipped Kinds.equal h (λ n h. and_then_lem (lone_cells source known n h) (λ c p. body_form (Stmt.for_x c) (λ s q. (p, q))))
+    for_x_lem at h = skipped Kinds.equal h (λ n h. and_then_lem (lone_cells source x known n h) (λ c p. body_form (Stmt.for_x c) (λ s q. (p, q))))
 
     for_form : {t : Token} → Held source t → Parsed source R (parse_for source names expr inner t)
     unfolding parse_for
     for_form {t = t} i =
         either (is Kinds.hash t) (λ e. for_x_lem t.next i.after)
-        (λ e. named source known as_integer t (λ s u. u.integer) (λ a p. for_integer a p t.next i.after) (refused i))
+        (λ e. named source x known as_integer t (λ s u. u.integer) (λ a p. for_integer a p t.next i.after) (refused i))
 
     pub statements : Parses source (StmtsBy Q) (parse_stmts source names inner)
     unfolding parse_stmts
@@ -118,7 +118,7 @@ module _ (source : List ℕ) {x : Context} {names : Names} (known : NamesOk x na
     from_start StmtStart.while p at h = while_form at h
     from_start StmtStart.for p at h = for_form (token_held source h)
     from_start StmtStart.compound p at h = compound at h
-    from_start (StmtStart.call q) p at h = calls source known exprs (Stmt.call q) (Stmt.call_with q) p (λ e r. (p, r)) at h
+    from_start (StmtStart.call q) p at h = calls source x known exprs (Stmt.call q) (Stmt.call_with q) p (λ e r. (p, r)) at h
 
   -- 9 is at the first token of a statement
   no_statement : (from : StmtStart → ℕ → Got Stmt) (at : ℕ) (t : Token) → Ended t → stmt_by source names from at t ≡ fail_at t 6
@@ -134,8 +134,8 @@ module _ (source : List ℕ) {x : Context} {names : Names} (known : NamesOk x na
       either (ends_statement t) (λ e. fine tt h) (λ e. and_then_lem (starts i) (λ s p n h. fails i 9 b (omega arith) (omega arith))))
   one_statement (suc left) at h =
       either (ends_statement (token_at source at)) (λ e. fine tt h)
-      (λ e. and_then_lem (starts (token_held source h)) (from_start (expressions source known (suc left)) (one_statement left)))
+      (λ e. and_then_lem (starts (token_held source h)) (from_start (expressions source x known (suc left)) (one_statement left)))
 
   pub outermost : Parses source (StmtsBy (StmtOk x 33)) (parse_outermost source names)
   unfolding parse_outermost
-  outermost = statements (expressions source known 33) (one_statement 33)
+  outermost = statements (expressions source x known 33) (one_statement 33)

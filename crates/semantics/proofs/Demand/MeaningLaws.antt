@@ -29,6 +29,8 @@ end_of : (t : Trace (Unit {0})) (τ : State) → Ends τ (bind t ended) → Obse
 unfolding bind ended
 end_of (Trace.done a σ) τ (Ends.later Ends.here) = Observes.here
 end_of (Trace.observe m t) τ (Ends.later e) = Observes.later (end_of t τ e)
+end_of (Trace.broke σ) τ e = elim e [ ]
+end_of (Trace.out σ) τ e = elim e [ ]
 
 end_seen : (procedures : Procedures) (fuel left : ℕ) (s : Stmt) (σ τ : State) → Ends τ (stmt_at procedures fuel left s σ) → Observes τ (stmt_at procedures fuel left s σ)
 unfolding stmt_at
@@ -39,6 +41,9 @@ kept : (t : Trace (Unit {0})) (f : Unit {0} → State → Trace (Unit {0})) (m :
 unfolding bind
 kept (Trace.observe n t) f m Observes.here = Observes.here
 kept (Trace.observe n t) f m (Observes.later o) = Observes.later (kept t f m o)
+kept (Trace.done a σ) f m o = elim o [ ]
+kept (Trace.broke σ) f m o = elim o [ ]
+kept (Trace.out σ) f m o = elim o [ ]
 
 -- ---- Subscripts
 

@@ -112,23 +112,34 @@ module _ (c : Compiled) (is : c.image ≡ image_of c.program) (well : WellFormed
     observed_of : {low : ℕ} {t : Trace (Unit {0})} {τ : State} → Followed N low t → Observes τ t → Standing τ
     observed_of (ok_observe l h k) Observes.here = h
     observed_of (ok_observe l h k) (Observes.later o) = observed_of k o
+    observed_of (ok_done m l q) e = elim e [ ]
+    observed_of (ok_broke l h b o) e = elim e [ ]
+    observed_of (ok_out l n h) e = elim e [ ]
 
     broken_of : {low : ℕ} {t : Trace (Unit {0})} {τ : State} → Followed N low t → Breaks τ t → Standing τ × Left (map_at c.program) laid.sound s τ
     broken_of (ok_broke l h b o) Breaks.here = (h, b)
     broken_of (ok_observe l h k) (Breaks.later o) = broken_of k o
+    broken_of (ok_done m l q) e = elim e [ ]
+    broken_of (ok_out l n h) e = elim e [ ]
 
     out_at : {low : ℕ} {t : Trace (Unit {0})} {τ : State} (f : Followed N low t) (b : Breaks τ t) → Out (map_at c.program) laid.sound s τ (broken_of f b).0.p
     unfolding broken_of
     out_at (ok_broke l h b o) Breaks.here = o
     out_at (ok_observe l h k) (Breaks.later o) = out_at k o
+    out_at (ok_done m l q) e = elim e [ ]
+    out_at (ok_out l n h) e = elim e [ ]
 
     out_of : {low : ℕ} {t : Trace (Unit {0})} {τ : State} → Followed N low t → RunsOut τ t → (N ≤ τ.steps) × Standing τ
     out_of (ok_out l n h) RunsOut.here = (n, h)
     out_of (ok_observe l h k) (RunsOut.later o) = out_of k o
+    out_of (ok_done m l q) e = elim e [ ]
+    out_of (ok_broke l h b o) e = elim e [ ]
 
     end_of : {low : ℕ} {t : Trace (Unit {0})} {τ : State} → Followed N low t → Ends τ t → (m : List ℕ) × Stood laid.last τ m
     end_of (ok_done m l q) Ends.here = (m, q)
     end_of (ok_observe l h k) (Ends.later e) = end_of k e
+    end_of (ok_broke l h b o) e = elim e [ ]
+    end_of (ok_out l n h) e = elim e [ ]
 
   -- ---- What lists of runs show
 
