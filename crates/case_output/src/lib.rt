@@ -4,15 +4,14 @@
 ghost use Rattle.std.specs.Prelude.{◌≡◌, ◌≤◌, length};
 
 use effect::Registers;
-use libc::STDOUT_FILENO;
 use machine::Outcome;
 
-pub fn text(s: &[u8]) {
-    io::write_all(STDOUT_FILENO, s);
+pub fn text(rt: &impl Print, s: &[u8]) {
+    output::print(rt, s);
 }
 
-pub fn decimal(n: u32) {
-    io::print_decimal(STDOUT_FILENO, n as u64);
+pub fn decimal(rt: &impl Print, n: u32) {
+    output::print_decimal(rt, n as u64);
 }
 
 // Puts the octal digits of w at the end of six bytes, and answers where they start.
@@ -33,74 +32,74 @@ fn octal_digits(w: u16, digits: &mut [u8]) -> usize
     at
 }
 
-pub fn octal(w: u16) {
+pub fn octal(rt: &impl Print, w: u16) {
     let mut digits = [0u8; 6];
     let at = octal_digits(w, &mut digits);
-    io::write_all(STDOUT_FILENO, &digits[at..]);
+    output::print(rt, &digits[at..]);
 }
 
 // The first line of a case.
-pub fn case(number: u32) {
-    text(b"case ");
-    decimal(number);
-    text(b"\n");
+pub fn case(rt: &impl Print, number: u32) {
+    text(rt, b"case ");
+    decimal(rt, number);
+    text(rt, b"\n");
 }
 
 // A blank and a digit.
-pub fn flag(b: bool) {
+pub fn flag(rt: &impl Print, b: bool) {
     if b {
-        text(b" 1");
+        text(rt, b" 1");
     } else {
-        text(b" 0");
+        text(rt, b" 0");
     }
 }
 
 // A blank and a number for each count of a clock record.
-pub fn counts(counts: [u32; 16]) {
+pub fn counts(rt: &impl Print, counts: [u32; 16]) {
     for i in 0..16usize {
-        text(b" ");
-        decimal(counts[i]);
+        text(rt, b" ");
+        decimal(rt, counts[i]);
     }
 }
 
-fn outcome(o: Outcome) {
+fn outcome(rt: &impl Print, o: Outcome) {
     match o {
-        Outcome::Halted => text(b"halted 0"),
-        Outcome::Spent => text(b"spent 0"),
+        Outcome::Halted => text(rt, b"halted 0"),
+        Outcome::Spent => text(rt, b"spent 0"),
         Outcome::Failed(n) => {
-            text(b"failed ");
-            decimal(n as u32);
+            text(rt, b"failed ");
+            decimal(rt, n as u32);
         }
     }
 }
 
 // The outcome, the steps and the registers, on a line that has begun.
-pub fn ending(o: Outcome, steps: u32, registers: Registers) {
-    outcome(o);
-    text(b" ");
-    decimal(steps);
-    text(b" ");
-    octal(registers.a);
-    text(b" ");
-    octal(registers.b);
-    flag(registers.c);
-    text(b" ");
+pub fn ending(rt: &impl Print, o: Outcome, steps: u32, registers: Registers) {
+    outcome(rt, o);
+    text(rt, b" ");
+    decimal(rt, steps);
+    text(rt, b" ");
+    octal(rt, registers.a);
+    text(rt, b" ");
+    octal(rt, registers.b);
+    flag(rt, registers.c);
+    text(rt, b" ");
 }
 
-fn word(address: u16, value: u16) {
-    text(b"word ");
-    octal(address);
-    text(b" ");
-    octal(value);
-    text(b"\n");
+fn word(rt: &impl Print, address: u16, value: u16) {
+    text(rt, b"word ");
+    octal(rt, address);
+    text(rt, b" ");
+    octal(rt, value);
+    text(rt, b"\n");
 }
 
 // A line for each word that changed.
-pub fn changes(before: &[u16; 16384], after: &[u16; 16384]) {
+pub fn changes(rt: &impl Print, before: &[u16; 16384], after: &[u16; 16384]) {
     for i in 0..16384u16 {
         let v = after[i as usize];
         if before[i as usize] != v {
-            word(i, v);
+            word(rt, i, v);
         }
     }
 }

@@ -61,38 +61,38 @@ fn put_line(out: &mut [u8], image: &[u16; 16384]) -> usize {
     put_text(out, four, b".\n")
 }
 
-fn print_line(image: &[u16; 16384]) {
+fn print_line(rt: &impl Print, image: &[u16; 16384]) {
     let mut out = [0u8; 256];
     let size = put_line(&mut out, image);
-    output::print_start(&out, size);
+    output::print_start(rt, &out, size);
 }
 
-fn print_failure(number: u16) {
+fn print_failure(rt: &impl Print, number: u16) {
     let mut out = [0u8; 128];
     let one = put_field(&mut out, 0, b"The page failed with ", number);
     let two = put_text(&mut out, one, b": ");
     let three = put_words(&mut out, two, number);
     let size = put_text(&mut out, three, b"\n");
-    output::print_start(&out, size);
+    output::print_start(rt, &out, size);
 }
 
 // The collection page of the same farms.
-fn print_page(image: &[u16; 16384]) {
+fn print_page(rt: &impl Print, image: &[u16; 16384]) {
     let litres = [image[LITRES], image[LITRES + 1], image[LITRES + 2]];
     let mut out = [0u8; 93];
     let answer = page::page(b"Upper Field\nMill Lane\nLong Acre\n", &litres, &mut out);
     match answer {
-        page::Answer::Made { length } => output::print_start(&out, length),
-        page::Answer::Failed { number } => print_failure(number),
+        page::Answer::Made { length } => output::print_start(rt, &out, length),
+        page::Answer::Failed { number } => print_failure(rt, number),
     }
 }
 
-fn main() {
+fn main(rt: HostRuntime) {
     let mut image = [0u16; 16384];
     if compile_and_run(&mut image) {
-        print_line(&image);
-        print_page(&image);
+        print_line(&rt, &image);
+        print_page(&rt, &image);
     } else {
-        output::print(b"The recipe did not come to its end.\n");
+        output::print(&rt, b"The recipe did not come to its end.\n");
     }
 }

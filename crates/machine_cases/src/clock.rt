@@ -25,30 +25,30 @@ fn others_kept(before: [u32; 16], after: [u32; 16], own: u32) -> bool {
 }
 
 // The clock and the cooperative's count, and whether the others are as they were.
-pub fn print(cooperative: u32, before: Clock, after: Clock) {
+pub fn print(rt: &impl Print, cooperative: u32, before: Clock, after: Clock) {
     let old = before.counts;
     let new = after.counts;
-    text(b", clock ");
-    decimal(after.common);
+    text(rt, b", clock ");
+    decimal(rt, after.common);
     if cooperative < 16 {
-        text(b", count ");
-        decimal(new[cooperative as usize]);
+        text(rt, b", count ");
+        decimal(rt, new[cooperative as usize]);
     } else {
-        text(b", no count");
+        text(rt, b", no count");
     }
     if others_kept(old, new, cooperative) {
-        text(b", others kept\n");
+        text(rt, b", others kept\n");
     } else {
-        text(b", others changed\n");
+        text(rt, b", others changed\n");
     }
 }
 
 // The whole record.
-pub fn print_all(clock: Clock) {
+pub fn print_all(rt: &impl Print, clock: Clock) {
     let counts = clock.counts;
-    text(b": clock ");
-    decimal(clock.common);
-    text(b", counts");
-    case_output::counts(counts);
-    text(b"\n");
+    text(rt, b": clock ");
+    decimal(rt, clock.common);
+    text(rt, b", counts");
+    case_output::counts(rt, counts);
+    text(rt, b"\n");
 }

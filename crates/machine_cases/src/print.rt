@@ -2,14 +2,14 @@
 use case_output::{decimal, text};
 use machine::Outcome;
 
-pub fn outcome(o: Outcome) {
+pub fn outcome(rt: &impl Print, o: Outcome) {
     match o {
-        Outcome::Halted => text(b": halted, "),
-        Outcome::Spent => text(b": spent, "),
+        Outcome::Halted => text(rt, b": halted, "),
+        Outcome::Spent => text(rt, b": spent, "),
         Outcome::Failed(n) => {
-            text(b": failed ");
-            decimal(n as u32);
-            text(b", ");
+            text(rt, b": failed ");
+            decimal(rt, n as u32);
+            text(rt, b", ");
         }
     }
 }

@@ -198,8 +198,7 @@ fn put_report(numbers: &mut [u32], report: Report)
 }
 
 // A run, and true; or false for numbers that are no call's, and nothing changes.
-#[unsafe(no_mangle)]
-pub extern "C" fn machine_run(
+pub fn machine_run(
     image: &mut [u16],
     machine: &mut [u32],
     clock: &mut [u32],
@@ -225,8 +224,7 @@ pub extern "C" fn machine_run(
 }
 
 // Whether the deadline has come at this clock, the first number of the record.
-#[unsafe(no_mangle)]
-pub extern "C" fn machine_due(clock: u32, deadline: u32) -> bool
+pub fn machine_due(clock: u32, deadline: u32) -> bool
     ensures { result ≡ due_of clock deadline }
 {
     let mut record = machine::start_clock();

@@ -14,55 +14,61 @@ const LONGEST: usize = 32768;
 // The same for a few farms.
 const ROOM: usize = 128;
 
-fn three_farms() {
+fn three_farms(rt: &impl Print) {
     let litres = [2140u16, 1875, 960];
     let mut out = [MARK; 93];
     page::page(b"Upper Field\nMill Lane\nLong Acre\n", &litres, &mut out);
-    output::print(&out);
+    output::print(rt, &out);
 }
 
-fn attempt(case: &[u8], names: &[u8], litres: &[u16], out: &mut [u8]) {
+fn attempt(rt: &impl Print, case: &[u8], names: &[u8], litres: &[u16], out: &mut [u8]) {
     let answer = page::page(names, litres, &mut *out);
-    output::print(case);
+    output::print(rt, case);
     match answer {
-        Answer::Made { length } => print::made(out, length),
-        Answer::Failed { number } => print::failed(out, number),
+        Answer::Made { length } => print::made(rt, out, length),
+        Answer::Failed { number } => print::failed(rt, out, number),
     }
 }
 
 // A page on an output of so many bytes.
-fn lend(case: &[u8], names: &[u8], litres: &[u16], room: usize)
+fn lend(rt: &impl Print, case: &[u8], names: &[u8], litres: &[u16], room: usize)
     requires { room ≤ 32768 }
 {
     let mut out = [MARK; LONGEST];
-    attempt(case, names, litres, &mut out[0..room]);
+    attempt(rt, case, names, litres, &mut out[0..room]);
 }
 
-fn none(case: &[u8], names: &[u8], room: usize)
+fn none(rt: &impl Print, case: &[u8], names: &[u8], room: usize)
     requires { room ≤ 32768 }
 {
     let litres = [0u16; 0];
-    lend(case, names, &litres, room);
+    lend(rt, case, names, &litres, room);
 }
 
-fn one(case: &[u8], names: &[u8], litres: u16, room: usize)
+fn one(rt: &impl Print, case: &[u8], names: &[u8], litres: u16, room: usize)
     requires { room ≤ 32768 }
 {
     let all = [litres];
-    lend(case, names, &all, room);
+    lend(rt, case, names, &all, room);
 }
 
-fn two(case: &[u8], names: &[u8], first: u16, second: u16) {
+fn two(rt: &impl Print, case: &[u8], names: &[u8], first: u16, second: u16) {
     let all = [first, second];
-    lend(case, names, &all, ROOM);
+    lend(rt, case, names, &all, ROOM);
 }
 
 // The same three farms.
-fn three(case: &[u8], room: usize)
+fn three(rt: &impl Print, case: &[u8], room: usize)
     requires { room ≤ 32768 }
 {
     let litres = [2140u16, 1875, 960];
-    lend(case, b"Upper Field\nMill Lane\nLong Acre\n", &litres, room);
+    lend(
+        rt,
+        case,
+        b"Upper Field\nMill Lane\nLong Acre\n",
+        &litres,
+        room,
+    );
 }
 
 // Ends each name, of one byte.
@@ -73,40 +79,41 @@ fn end_names(names: &mut [u8]) {
 }
 
 // Farms with names of one byte, which are not ended yet.
-fn many(case: &[u8], names: &mut [u8], litres: &[u16]) {
+fn many(rt: &impl Print, case: &[u8], names: &mut [u8], litres: &[u16]) {
     end_names(&mut *names);
-    lend(case, names, litres, LONGEST);
+    lend(rt, case, names, litres, LONGEST);
 }
 
-fn most() {
+fn most(rt: &impl Print) {
     let mut names = [b'A'; 2000];
     let litres = [32767u16; 1000];
-    many(b"1000 farms", &mut names, &litres);
+    many(rt, b"1000 farms", &mut names, &litres);
 }
 
 // One farm too many, which may have another name and other litres.
-fn one_more(case: &[u8], last_name: u8, last_litres: u16) {
+fn one_more(rt: &impl Print, case: &[u8], last_name: u8, last_litres: u16) {
     let mut names = [b'A'; 2002];
     let mut litres = [32767u16; 1001];
     names[2000] = last_name;
     litres[1000] = last_litres;
-    many(case, &mut names, &litres);
+    many(rt, case, &mut names, &litres);
 }
 
-fn counts_of_farms() {
-    none(b"no farm", b"", ROOM);
-    most();
-    one_more(b"1001 farms", b'A', 32767);
-    one_more(b"1001 farms, the last name bad", 31, 32767);
-    one_more(b"1001 farms, the last litres bad", b'A', 32768);
+fn counts_of_farms(rt: &impl Print) {
+    none(rt, b"no farm", b"", ROOM);
+    most(rt);
+    one_more(rt, b"1001 farms", b'A', 32767);
+    one_more(rt, b"1001 farms, the last name bad", 31, 32767);
+    one_more(rt, b"1001 farms, the last litres bad", b'A', 32768);
 }
 
-fn lengths_of_names() {
-    one(b"name of 14 bytes", b"ABCDEFGHIJKLMN\n", 960, ROOM);
-    one(b"name of 15 bytes", b"ABCDEFGHIJKLMNO\n", 960, ROOM);
-    one(b"empty name", b"\n", 960, ROOM);
-    one(b"unended name", b"Long Acre", 960, ROOM);
+fn lengths_of_names(rt: &impl Print) {
+    one(rt, b"name of 14 bytes", b"ABCDEFGHIJKLMN\n", 960, ROOM);
+    one(rt, b"name of 15 bytes", b"ABCDEFGHIJKLMNO\n", 960, ROOM);
+    one(rt, b"empty name", b"\n", 960, ROOM);
+    one(rt, b"unended name", b"Long Acre", 960, ROOM);
     two(
+        rt,
         b"unended name behind another",
         b"Mill Lane\nLong Acre",
         1875,
@@ -114,91 +121,126 @@ fn lengths_of_names() {
     );
 }
 
-fn bytes_of_names() {
-    one(b"name of spaces only", b"   \n", 960, ROOM);
-    one(b"name with byte 31", b"Long\x1fAcre\n", 960, ROOM);
-    one(b"name with byte 126", b"Long~Acre\n", 960, ROOM);
-    one(b"name with byte 127", b"Long\x7fAcre\n", 960, ROOM);
-    one(b"name with byte 255", b"Long\xffAcre\n", 960, ROOM);
-    one(b"name with a tab", b"Long\tAcre\n", 960, ROOM);
-    one(b"name with a carriage return", b"Long Acre\r\n", 960, ROOM);
+fn bytes_of_names(rt: &impl Print) {
+    one(rt, b"name of spaces only", b"   \n", 960, ROOM);
+    one(rt, b"name with byte 31", b"Long\x1fAcre\n", 960, ROOM);
+    one(rt, b"name with byte 126", b"Long~Acre\n", 960, ROOM);
+    one(rt, b"name with byte 127", b"Long\x7fAcre\n", 960, ROOM);
+    one(rt, b"name with byte 255", b"Long\xffAcre\n", 960, ROOM);
+    one(rt, b"name with a tab", b"Long\tAcre\n", 960, ROOM);
+    one(
+        rt,
+        b"name with a carriage return",
+        b"Long Acre\r\n",
+        960,
+        ROOM,
+    );
 }
 
-fn litres() {
-    one(b"litres 0", b"Long Acre\n", 0, ROOM);
-    one(b"litres 32767", b"Long Acre\n", 32767, ROOM);
-    one(b"litres 32768", b"Long Acre\n", 32768, ROOM);
-    one(b"litres 65535", b"Long Acre\n", 65535, ROOM);
+fn litres(rt: &impl Print) {
+    one(rt, b"litres 0", b"Long Acre\n", 0, ROOM);
+    one(rt, b"litres 32767", b"Long Acre\n", 32767, ROOM);
+    one(rt, b"litres 32768", b"Long Acre\n", 32768, ROOM);
+    one(rt, b"litres 65535", b"Long Acre\n", 65535, ROOM);
 }
 
-fn outputs() {
-    three(b"output just long enough", 93);
-    three(b"output one byte longer", 94);
-    three(b"output one byte short", 92);
-    three(b"empty output", 0);
-    none(b"empty output, no farm", b"", 0);
+fn outputs(rt: &impl Print) {
+    three(rt, b"output just long enough", 93);
+    three(rt, b"output one byte longer", 94);
+    three(rt, b"output one byte short", 92);
+    three(rt, b"empty output", 0);
+    none(rt, b"empty output, no farm", b"", 0);
 }
 
 // What has no partner is not judged.
-fn lists() {
-    one(b"a name too many", b"Mill Lane\nLong Acre\n", 1875, ROOM);
-    one(b"a name too many, empty", b"Mill Lane\n\n", 1875, ROOM);
+fn lists(rt: &impl Print) {
     one(
+        rt,
+        b"a name too many",
+        b"Mill Lane\nLong Acre\n",
+        1875,
+        ROOM,
+    );
+    one(rt, b"a name too many, empty", b"Mill Lane\n\n", 1875, ROOM);
+    one(
+        rt,
         b"a name too many, unended",
         b"Mill Lane\nLong Acre",
         1875,
         ROOM,
     );
-    none(b"names without litres", b"Mill Lane\nLong Acre\n", ROOM);
+    none(rt, b"names without litres", b"Mill Lane\nLong Acre\n", ROOM);
     none(
+        rt,
         b"names without litres, the last unended",
         b"Mill Lane\nLong Acre",
         ROOM,
     );
-    two(b"litres too many", b"Mill Lane\n", 1875, 960);
-    two(b"litres too many, 32768", b"Mill Lane\n", 1875, 32768);
-    one(b"litres without a name", b"", 960, ROOM);
-    one(b"litres without a name, 32768", b"", 32768, ROOM);
+    two(rt, b"litres too many", b"Mill Lane\n", 1875, 960);
+    two(rt, b"litres too many, 32768", b"Mill Lane\n", 1875, 32768);
+    one(rt, b"litres without a name", b"", 960, ROOM);
+    one(rt, b"litres without a name, 32768", b"", 32768, ROOM);
 }
 
-fn order_of_farms() {
-    one(b"bad name and bad litres", b"\n", 32768, ROOM);
-    two(b"bad name, then bad litres", b"\nLong Acre\n", 1875, 32768);
-    two(b"bad litres, then bad name", b"Mill Lane\n\n", 32768, 960);
+fn order_of_farms(rt: &impl Print) {
+    one(rt, b"bad name and bad litres", b"\n", 32768, ROOM);
+    two(
+        rt,
+        b"bad name, then bad litres",
+        b"\nLong Acre\n",
+        1875,
+        32768,
+    );
+    two(
+        rt,
+        b"bad litres, then bad name",
+        b"Mill Lane\n\n",
+        32768,
+        960,
+    );
 }
 
-fn order_of_lists() {
+fn order_of_lists(rt: &impl Print) {
     one(
+        rt,
         b"bad name, and a name too many",
         b"\nLong Acre\n",
         1875,
         ROOM,
     );
     one(
+        rt,
         b"bad litres, and a name too many",
         b"Mill Lane\nLong Acre\n",
         32768,
         ROOM,
     );
-    two(b"bad name, and litres too many", b"\n", 1875, 960);
+    two(rt, b"bad name, and litres too many", b"\n", 1875, 960);
     two(
+        rt,
         b"bad litres, and litres too many",
         b"Mill Lane\n",
         32768,
         960,
     );
-    one(b"bad name, and empty output", b"\n", 1875, 0);
-    one(b"bad litres, and empty output", b"Mill Lane\n", 32768, 0);
+    one(rt, b"bad name, and empty output", b"\n", 1875, 0);
+    one(
+        rt,
+        b"bad litres, and empty output",
+        b"Mill Lane\n",
+        32768,
+        0,
+    );
 }
 
-fn main() {
-    three_farms();
-    counts_of_farms();
-    lengths_of_names();
-    bytes_of_names();
-    litres();
-    outputs();
-    lists();
-    order_of_farms();
-    order_of_lists();
+fn main(rt: HostRuntime) {
+    three_farms(&rt);
+    counts_of_farms(&rt);
+    lengths_of_names(&rt);
+    bytes_of_names(&rt);
+    litres(&rt);
+    outputs(&rt);
+    lists(&rt);
+    order_of_farms(&rt);
+    order_of_lists(&rt);
 }

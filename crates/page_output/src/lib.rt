@@ -18,10 +18,10 @@ fn kept(out: &[u8], from: usize) -> bool {
 }
 
 // Whether the bytes from an offset on are marked, at the end of a line.
-pub fn print_kept(out: &[u8], from: usize) {
+pub fn print_kept(rt: &impl Print, out: &[u8], from: usize) {
     if kept(out, from) {
-        print(b"kept\n");
+        print(rt, b"kept\n");
     } else {
-        print(b"changed\n");
+        print(rt, b"changed\n");
     }
 }

@@ -2,7 +2,6 @@
 #![tactic(auto)]
 
 use case_input::{parse_number, part_end, word};
-use libc::{STDIN_FILENO, STDOUT_FILENO};
 use page::Answer;
 use page_output::{MARK, print_kept};
 
@@ -11,38 +10,38 @@ const FARMS: usize = 1024;
 
 const ROOM: usize = 32768;
 
-fn print_number(name: &[u8], n: usize) {
-    output::print(name);
-    io::print_decimal(STDOUT_FILENO, n as u64);
-    output::print(b"\n");
+fn print_number(rt: &impl Print, name: &[u8], n: usize) {
+    output::print(rt, name);
+    output::print_decimal(rt, n as u64);
+    output::print(rt, b"\n");
 }
 
 // The page, of so many bytes, and whether those behind it are kept.
-fn print_output(out: &[u8], length: usize) {
-    output::print_start(out, length);
-    print_kept(out, length);
+fn print_output(rt: &impl Print, out: &[u8], length: usize) {
+    output::print_start(rt, out, length);
+    print_kept(rt, out, length);
 }
 
-fn print_page(names: &[u8], litres: &[u16], out: &mut [u8]) {
+fn print_page(rt: &impl Print, names: &[u8], litres: &[u16], out: &mut [u8]) {
     let answer = page::page(names, litres, &mut *out);
     match answer {
         Answer::Made { length } => {
-            print_number(b"made ", length);
-            print_output(out, length);
+            print_number(rt, b"made ", length);
+            print_output(rt, out, length);
         }
         Answer::Failed { number } => {
-            print_number(b"failed ", number as usize);
-            print_output(out, 0);
+            print_number(rt, b"failed ", number as usize);
+            print_output(rt, out, 0);
         }
     }
 }
 
 // The page on an output of so many bytes.
-fn lend(names: &[u8], litres: &[u16], size: u32) {
+fn lend(rt: &impl Print, names: &[u8], litres: &[u16], size: u32) {
     let mut out = [MARK; ROOM];
     let room = size as usize;
     if room <= ROOM {
-        print_page(names, litres, &mut out[0..room]);
+        print_page(rt, names, litres, &mut out[0..room]);
     }
 }
 
@@ -60,40 +59,40 @@ fn parse_litres(text: &[u8], at: usize, litres: &mut [u16]) -> usize {
 }
 
 // The litres at `at`, the length of the names and their bytes. Answers where the next case starts.
-fn farms(text: &[u8], at: usize, litres: &mut [u16], room: u32) -> usize {
+fn farms(rt: &impl Print, text: &[u8], at: usize, litres: &mut [u16], room: u32) -> usize {
     let size = parse_number(text, parse_litres(text, at, &mut *litres));
     let from = size.next;
     let end = part_end(text, from, size.value);
     if from <= end {
-        lend(&text[from..end], litres, room);
+        lend(rt, &text[from..end], litres, room);
     }
     part_end(text, end, 1)
 }
 
 // The case at `at`: the length of its output, the count of its litres and its farms. Answers where the next one starts.
-fn case(text: &[u8], at: usize, number: u32) -> usize {
+fn case(rt: &impl Print, text: &[u8], at: usize, number: u32) -> usize {
     let room = parse_number(text, at);
     let count = parse_number(text, room.next);
     let size = count.value as usize;
     let mut litres = [0u16; FARMS];
-    print_number(b"case ", number as usize);
+    print_number(rt, b"case ", number as usize);
     if size <= FARMS {
-        return farms(text, count.next, &mut litres[0..size], room.value);
+        return farms(rt, text, count.next, &mut litres[0..size], room.value);
     }
     count.next
 }
 
-fn cases(text: &[u8]) {
+fn cases(rt: &impl Print, text: &[u8]) {
     let count = parse_number(text, 0);
     let last = count.value;
     let mut at = count.next;
     for i in 0..last {
-        at = case(text, at, i);
+        at = case(rt, text, at, i);
     }
 }
 
-fn main() {
+fn main(rt: HostRuntime) {
     let mut text = [0u8; 262144];
-    let n = io::read_full(STDIN_FILENO, &mut text);
-    cases(&text[..n]);
+    let n = output::read_full(&mut rt.reader(), &mut text);
+    cases(&rt, &text[..n]);
 }

@@ -5,7 +5,6 @@
 use case_input::{parse_number, part_end};
 use compiler::{Answer, SCRATCH_WORDS};
 use effect::{Registers, Switches};
-use libc::{STDIN_FILENO, STDOUT_FILENO};
 use listing_lines::LONGEST;
 use machine::{Machine, Outcome, Request};
 use output::{print, print_start};
@@ -24,14 +23,14 @@ fn all_are(words: &[u16], value: u16) -> bool {
     true
 }
 
-fn print_number(name: &[u8], n: u32) {
-    print(name);
-    io::print_decimal(STDOUT_FILENO, n as u64);
-    print(b"\n");
+fn print_number(rt: &impl Print, name: &[u8], n: u32) {
+    print(rt, name);
+    output::print_decimal(rt, n as u64);
+    print(rt, b"\n");
 }
 
 // The image as it was emitted, from its entry, all registers 0.
-fn run(image: &mut [u16], entry: u16) {
+fn run(rt: &impl Print, image: &mut [u16], entry: u16) {
     let registers = Registers {
         a: 0,
         b: 0,
@@ -60,53 +59,53 @@ fn run(image: &mut [u16], entry: u16) {
     );
     let outcome = report.outcome;
     if let Outcome::Halted = outcome {
-        print(b"run=halted\n");
+        print(rt, b"run=halted\n");
     } else {
-        print(b"run=other\n");
+        print(rt, b"run=other\n");
     }
-    print_number(b"steps=", report.steps);
+    print_number(rt, b"steps=", report.steps);
     let left = report.machine.registers;
-    print_number(b"a=", left.a as u32);
-    print_number(b"b=", left.b as u32);
-    print_number(b"c=", if left.c { 1 } else { 0 });
+    print_number(rt, b"a=", left.a as u32);
+    print_number(rt, b"b=", left.b as u32);
+    print_number(rt, b"c=", if left.c { 1 } else { 0 });
 }
 
 // Answers whether an image was emitted.
-fn listing(source: &[u8], image: &mut [u16], scratch: &mut [u16]) -> bool {
+fn listing(rt: &impl Print, source: &[u8], image: &mut [u16], scratch: &mut [u16]) -> bool {
     let answer = compiler::compile(source, image, scratch);
     let mut out = [0u8; LONGEST];
     let size = listing_lines::lines(answer, image, &mut out);
-    print_start(&out, size);
+    print_start(rt, &out, size);
     let kept = all_are(image, MARK);
     if kept {
-        print(b"image=kept\n");
+        print(rt, b"image=kept\n");
     } else {
-        print(b"image=laid\n");
+        print(rt, b"image=laid\n");
     }
     if all_are(scratch, 0) {
-        print(b"scratch=zeros\n");
+        print(rt, b"scratch=zeros\n");
     } else {
-        print(b"scratch=left\n");
+        print(rt, b"scratch=left\n");
     }
     !kept
 }
 
 // A case with so many words of image and of scratch.
-fn lend(source: &[u8], image_size: u32, scratch_size: u32) -> bool {
+fn lend(rt: &impl Print, source: &[u8], image_size: u32, scratch_size: u32) -> bool {
     let mut image = [MARK; 16385];
     let mut scratch = [MARK; 12288];
     let words = image_size as usize;
     let spare = scratch_size as usize;
     if words <= 16385 {
         if spare <= 12288 {
-            return listing(source, &mut image[0..words], &mut scratch[0..spare]);
+            return listing(rt, source, &mut image[0..words], &mut scratch[0..spare]);
         }
     }
     false
 }
 
 // Compiled once more, onto zeros, and run.
-fn run_source(source: &[u8]) {
+fn run_source(rt: &impl Print, source: &[u8]) {
     let mut image = [0u16; 16384];
     let mut scratch = [0u16; SCRATCH_WORDS];
     let answer = compiler::compile(source, &mut image, &mut scratch);
@@ -116,13 +115,13 @@ fn run_source(source: &[u8]) {
         globals: _,
     } = answer
     {
-        run(&mut image, entry);
+        run(rt, &mut image, entry);
     }
 }
 
 // The case at `at`: the length of its name, the words of image and scratch, the length of its source, then the name and the source, a line each.
 // Answers where the next one starts.
-fn case(text: &[u8], at: usize) -> usize {
+fn case(rt: &impl Print, text: &[u8], at: usize) -> usize {
     let name = parse_number(text, at);
     let image = parse_number(text, name.next);
     let scratch = parse_number(text, image.next);
@@ -130,30 +129,30 @@ fn case(text: &[u8], at: usize) -> usize {
     let from = size.next;
     let name_end = part_end(text, from, name.value);
     if from <= name_end {
-        print(&text[from..name_end]);
-        print(b"\n");
+        print(rt, &text[from..name_end]);
+        print(rt, b"\n");
     }
     let source = part_end(text, name_end, 1);
     let end = part_end(text, source, size.value);
     if source <= end {
-        if lend(&text[source..end], image.value, scratch.value) {
-            run_source(&text[source..end]);
+        if lend(rt, &text[source..end], image.value, scratch.value) {
+            run_source(rt, &text[source..end]);
         }
     }
     part_end(text, end, 1)
 }
 
-fn cases(text: &[u8]) {
+fn cases(rt: &impl Print, text: &[u8]) {
     let count = parse_number(text, 0);
     let last = count.value;
     let mut at = count.next;
     for _ in 0..last {
-        at = case(text, at);
+        at = case(rt, text, at);
     }
 }
 
-fn main() {
+fn main(rt: HostRuntime) {
     let mut text = [0u8; 65536];
-    let n = io::read_full(STDIN_FILENO, &mut text);
-    cases(&text[..n]);
+    let n = output::read_full(&mut rt.reader(), &mut text);
+    cases(&rt, &text[..n]);
 }

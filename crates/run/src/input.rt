@@ -1,6 +1,8 @@
 // Reading a source to its end.
 ghost use Rattle.run.specs.Inputs.{Fits};
 
+use std::io::Read;
+
 #[derive(Drop)]
 pub enum Input {
     Bytes { count: usize },
@@ -9,16 +11,14 @@ pub enum Input {
 
 // Reads until the text is full or the input ends. A read that fails, be it the first or a later one, makes the whole input unreadable: a part of a
 // source would be another source.
-pub fn read_source(fd: i32, text: &mut [u8]) -> Input
+pub fn read_source(from: &mut impl Read, text: &mut [u8]) -> Input
     ensures { Fits result text.new }
 {
     let mut n = 0;
     while n < text.len() {
-        let got = libc::read(fd, &mut text[n..]);
-        if got < 0 {
+        let Ok(more) = from.read(&mut text[n..]) else {
             return Input::Unreadable;
-        }
-        let more = io::count(got, &text[n..]);
+        };
         if more == 0 {
             return Input::Bytes { count: n };
         }

@@ -5,10 +5,15 @@ use arguments::{SwitchesArgument, TurnsArgument};
 use compiler::SCRATCH_WORDS;
 use effect::Switches;
 use input::Input;
-use libc::STDIN_FILENO;
 use output::{print, print_start};
+use std::env::{Env, FillError};
+use std::fs::{File, Files};
+use std::io::Read;
 
 mod input;
+
+// The most bytes of an argument that is read.
+const LONGEST_ARGUMENT: usize = 4096;
 
 // What is asked for behind the file's name.
 #[derive(Drop)]
@@ -17,37 +22,36 @@ struct Asked {
     switches: Switches,
 }
 
-fn usage() {
-    print(b"Usage: run [FILE or -] [TURNS] [SWITCHES]\n");
+fn usage(rt: &impl Print) {
+    print(rt, b"Usage: run [FILE or -] [TURNS] [SWITCHES]\n");
 }
 
 // The second argument, or one turn where there is none. An argument that does not fit the buffer makes no sense.
-fn turns_argument() -> TurnsArgument {
-    if os::arg_count() < 3 {
-        return TurnsArgument::Turns(1);
+fn turns_argument(rt: &impl Env) -> TurnsArgument {
+    let mut text = [0u8; LONGEST_ARGUMENT];
+    match rt.arg(2, &mut text) {
+        Ok(n) => arguments::turns(&text[..n]),
+        Err(FillError::NotPresent) => TurnsArgument::Turns(1),
+        Err(FillError::TooLong) => TurnsArgument::Nonsense,
     }
-    let mut text = io::buffer();
-    let n = os::arg(2, &mut text);
-    if os::errno() != 0 {
-        return TurnsArgument::Nonsense;
-    }
-    arguments::turns(&text[..n])
 }
 
 // The third, or all switches down.
-fn switches_argument() -> SwitchesArgument {
-    if os::arg_count() < 4 {
-        return arguments::switches(b"0000");
+fn switches_argument(rt: &impl Env) -> SwitchesArgument {
+    let mut text = [0u8; LONGEST_ARGUMENT];
+    match rt.arg(3, &mut text) {
+        Ok(n) => arguments::switches(&text[..n]),
+        Err(FillError::NotPresent) => arguments::switches(b"0000"),
+        Err(FillError::TooLong) => SwitchesArgument::Nonsense,
     }
-    let mut text = io::buffer();
-    let n = os::arg(3, &mut text);
-    if os::errno() != 0 {
-        return SwitchesArgument::Nonsense;
-    }
-    arguments::switches(&text[..n])
 }
 
-fn show(source: &[u8], asked: Asked) {
+fn has_more_arguments(rt: &impl Env) -> bool {
+    let mut text = [0u8; LONGEST_ARGUMENT];
+    !matches!(rt.arg(4, &mut text), Err(FillError::NotPresent))
+}
+
+fn show(rt: &impl Print, source: &[u8], asked: Asked) {
     let mut image = [0u16; 16384];
     let mut scratch = [0u16; SCRATCH_WORDS];
     let mut out = [0u8; 262144];
@@ -59,75 +63,70 @@ fn show(source: &[u8], asked: Asked) {
         &mut scratch,
         &mut out,
     );
-    print_start(&out, size);
+    print_start(rt, &out, size);
 }
 
-fn run_input(fd: i32, asked: Asked) {
+fn run_input(rt: &impl Print, from: &mut impl Read, asked: Asked) {
     // One byte more than the longest source: a longer one fails by that byte (F3).
     let mut text = [0u8; 8193];
-    let read = input::read_source(fd, &mut text);
+    let read = input::read_source(from, &mut text);
     match read {
-        Input::Bytes { count } => show(&text[..count], asked),
-        Input::Unreadable => print(b"The input cannot be read.\n"),
+        Input::Bytes { count } => show(rt, &text[..count], asked),
+        Input::Unreadable => print(rt, b"The input cannot be read.\n"),
     }
 }
 
-fn cannot_open(path: &[u8]) {
+fn cannot_open(rt: &impl Print, path: &[u8]) {
     let mut out = [0u8; 8192];
     let one = digits::put_text(&mut out, 0, b"The file \"");
     let two = failure_report::put_visible(&mut out, one, path);
     let size = digits::put_text(&mut out, two, b"\" cannot be opened.\n");
-    print_start(&out, size);
+    print_start(rt, &out, size);
 }
 
-fn run_file(path: &[u8], asked: Asked) {
-    let fd = os::open_read(path);
-    if fd < 0 {
-        cannot_open(path);
+// A file is opened by a text: one whose name is not UTF-8 cannot be opened.
+fn run_file(rt: &(impl Files + Print), path: &[u8], asked: Asked) {
+    let Ok(name) = str::from_utf8(path) else {
+        cannot_open(rt, path);
         return;
-    }
-    run_input(fd, asked);
-    libc::close(fd);
+    };
+    let Ok(mut file) = File::open(rt, name) else {
+        cannot_open(rt, path);
+        return;
+    };
+    run_input(rt, &mut file, asked);
 }
 
 // A name of `-`, or no name, is standard input. A longer name that begins so is taken for an option, which there is none of.
-fn run_argument(asked: Asked) {
-    let mut path = io::buffer();
-    let n = os::arg(1, &mut path);
-    let error = os::errno();
-    if os::arg_count() < 2 {
-        run_input(STDIN_FILENO, asked);
-        return;
+fn run_argument(rt: &(impl Env + Files + std::io::Input + Print), asked: Asked) {
+    let mut path = [0u8; LONGEST_ARGUMENT];
+    match rt.arg(1, &mut path) {
+        Ok(n) => match &path[..n] {
+            b"-" => run_input(rt, &mut rt.reader(), asked),
+            [b'-', ..] => usage(rt),
+            name => run_file(rt, name, asked),
+        },
+        Err(FillError::NotPresent) => run_input(rt, &mut rt.reader(), asked),
+        Err(FillError::TooLong) => {
+            print(rt, b"The file cannot be opened: its name is too long.\n");
+        }
     }
-    if error != 0 {
-        print(b"The file cannot be opened: its name is too long.\n");
-        return;
-    }
-    if path[0] != b'-' {
-        run_file(&path[..n], asked);
-        return;
-    }
-    if n == 1 {
-        run_input(STDIN_FILENO, asked);
-        return;
-    }
-    usage();
 }
 
-fn main() {
-    let turns = turns_argument();
-    let switches = switches_argument();
-    if 4 < os::arg_count() {
-        usage();
+fn main(rt: HostRuntime) {
+    let turns = turns_argument(&rt);
+    let switches = switches_argument(&rt);
+    if has_more_arguments(&rt) {
+        usage(&rt);
         return;
     }
     let TurnsArgument::Turns(turns) = turns else {
-        print(b"TURNS must be a number from 1 to 1000000.\n");
+        print(&rt, b"TURNS must be a number from 1 to 1000000.\n");
         return;
     };
     let SwitchesArgument::Set(switches) = switches else {
-        print(b"SWITCHES must be four digits, each 0 or 1.\n");
+        print(&rt, b"SWITCHES must be four digits, each 0 or 1.\n");
         return;
     };
-    run_argument(Asked { turns, switches });
+    run_argument(&rt, Asked { turns, switches });
 }

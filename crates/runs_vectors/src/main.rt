@@ -5,7 +5,6 @@
 use case_input::{parse_number, part_end};
 use case_output::{decimal, text};
 use compiler::{Answer, SCRATCH_WORDS};
-use libc::STDIN_FILENO;
 use machine::{Clock, Machine, Outcome, Report, Request};
 
 mod input;
@@ -71,7 +70,7 @@ struct Stop {
 }
 
 // Runs from moment to moment: their count, then the steps up to each. Prints the steps made at each one that the run comes to.
-fn run_moments(text: &[u8], at: usize, image: &mut [u16], m: Machine) -> Stop {
+fn run_moments(rt: &impl Print, text: &[u8], at: usize, image: &mut [u16], m: Machine) -> Stop {
     let count = parse_number(text, at);
     let last = count.value;
     let mut at = count.next;
@@ -83,7 +82,7 @@ fn run_moments(text: &[u8], at: usize, image: &mut [u16], m: Machine) -> Stop {
         let outcome = report.outcome;
         m = report.machine;
         clock = report.clock;
-        print_moment(outcome, clock.common);
+        print_moment(rt, outcome, clock.common);
         at = moment.next;
     }
     Stop {
@@ -93,54 +92,54 @@ fn run_moments(text: &[u8], at: usize, image: &mut [u16], m: Machine) -> Stop {
     }
 }
 
-fn print_moment(o: Outcome, steps: u32) {
+fn print_moment(rt: &impl Print, o: Outcome, steps: u32) {
     if let Outcome::Spent = o {
-        text(b" ");
-        decimal(steps);
+        text(rt, b" ");
+        decimal(rt, steps);
     }
 }
 
-fn print_run(budget: u32, r: Report) {
+fn print_run(rt: &impl Print, budget: u32, r: Report) {
     let o = r.outcome;
     let m = r.machine;
     let registers = m.registers;
-    text(b"run ");
-    decimal(budget);
-    text(b" ");
-    case_output::ending(o, r.clock.common, registers);
-    case_output::octal(m.p);
-    text(b"\n");
+    text(rt, b"run ");
+    decimal(rt, budget);
+    text(rt, b" ");
+    case_output::ending(rt, o, r.clock.common, registers);
+    case_output::octal(rt, m.p);
+    text(rt, b"\n");
 }
 
 // The case at `at`: its source, the start, the words to set and the moments. Answers where the next one starts.
-fn case(stored: &[u8], at: usize, number: u32) -> usize {
+fn case(rt: &impl Print, stored: &[u8], at: usize, number: u32) -> usize {
     let mut image = [0u16; 16384];
     let compiled = compile_case(stored, at, &mut image);
     let start = input::parse_start(stored, compiled.next, compiled.entry);
     let moments = case_input::parse_words(stored, start.next, &mut image);
     let before = image;
-    case_output::case(number);
-    text(b"moments");
-    let stop = run_moments(stored, moments, &mut image, start.machine);
+    case_output::case(rt, number);
+    text(rt, b"moments");
+    let stop = run_moments(rt, stored, moments, &mut image, start.machine);
     let report = run_until(&mut image, stop.machine, stop.clock, start.budget);
-    text(b"\n");
-    print_run(start.budget, report);
-    case_output::changes(&before, &image);
-    text(b"end\n");
+    text(rt, b"\n");
+    print_run(rt, start.budget, report);
+    case_output::changes(rt, &before, &image);
+    text(rt, b"end\n");
     stop.next
 }
 
-fn cases(text: &[u8]) {
+fn cases(rt: &impl Print, text: &[u8]) {
     let count = parse_number(text, 0);
     let last = count.value;
     let mut at = count.next;
     for i in 0..last {
-        at = case(text, at, i);
+        at = case(rt, text, at, i);
     }
 }
 
-fn main() {
+fn main(rt: HostRuntime) {
     let mut text = [0u8; 262144];
-    let n = io::read_full(STDIN_FILENO, &mut text);
-    cases(&text[..n]);
+    let n = output::read_full(&mut rt.reader(), &mut text);
+    cases(&rt, &text[..n]);
 }
