@@ -75,3 +75,7 @@ module _ (s : List ℕ) (i n : ℕ) where
   pub done : length s ≤ i → count_from n (drop i s) ≡ count_of true n
   unfolding all number
   done h = rw (drop_of_length-le s h)
+
+pub ruleset all_switches_laws = (all_next, all_not, all_done)
+
+pub ruleset turns_laws = (digit, other, over, done, counted, bounds)

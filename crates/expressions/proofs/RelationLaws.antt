@@ -96,3 +96,9 @@ module _ {a b c d : Emitted} {past place : ℕ} {image : List ℕ} where
           let parts = append_length first (Sym.jump 0 ∷ (k.forward f).rest c.next) in
           let p = (k.forward f).place l in
           omega (arith, n, size, parts, p)
+
+pub ruleset relation_emit_at_most_laws = (at_most_lem)
+
+pub ruleset relation_emit_greater_laws = (greater)
+
+pub ruleset relation_emit_relation_laws = (same_kind, not_equal, less, equal, last_kind, at_least_lem)

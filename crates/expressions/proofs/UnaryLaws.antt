@@ -307,3 +307,11 @@ laid {a} {end} {image} us e n i =
             over = λ l. omega (arith, c, l);
           };
     }
+
+pub ruleset unaries_emit_unaries_laws = (past_end, laid)
+
+pub ruleset unaries_place_unaries_laws = (none_stored, runs_out, stops, turns, room, still_room, places)
+
+pub ruleset unaries_unaries_end_laws = (none_counted, runs_out, stops, turns, advances)
+
+pub ruleset unaries_unaries_next_laws = (runs_out, stops, turns)

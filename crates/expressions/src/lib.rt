@@ -69,7 +69,7 @@ fn emit_read(
 }
 
 // An expression and `)`, after the `(`.
-#[cycle(alternative_bracketed_call_chain_choice_condition_expression_term)]
+#[cycle(parts)]
 fn bracketed(
     source: &[u8],
     table: &[u16],
@@ -96,7 +96,7 @@ fn bracketed(
 }
 
 // A call, after the procedure's name: its argument, if it has one, then the jump through the procedure word (W14).
-#[cycle(alternative_bracketed_call_chain_choice_condition_expression_term)]
+#[cycle(parts)]
 pub fn call(
     source: &[u8],
     table: &[u16],
@@ -132,7 +132,7 @@ pub fn call(
 }
 
 // A term from after its first token, with the levels left for an expression in it.
-#[cycle(alternative_bracketed_call_chain_choice_condition_expression_term)]
+#[cycle(parts)]
 fn term(
     source: &[u8],
     table: &[u16],
@@ -170,7 +170,7 @@ fn term(
 }
 
 // Unary words, a term, then any operations; the unary words' instructions follow the term's (W4).
-#[cycle(alternative_bracketed_call_chain_choice_condition_expression_term)]
+#[cycle(parts)]
 fn chain(
     source: &[u8],
     table: &[u16],
@@ -201,7 +201,7 @@ fn chain(
 }
 
 // A condition.
-#[cycle(alternative_bracketed_call_chain_choice_condition_expression_term)]
+#[cycle(parts)]
 pub fn condition(
     source: &[u8],
     table: &[u16],
@@ -239,7 +239,7 @@ pub fn condition(
 }
 
 // A conditional expression, after its `.IF` (E5, W10).
-#[cycle(alternative_bracketed_call_chain_choice_condition_expression_term)]
+#[cycle(parts)]
 fn choice(
     source: &[u8],
     table: &[u16],
@@ -283,7 +283,7 @@ fn choice(
 }
 
 // Its `.ELSE` and second part, and the jump past it filled in.
-#[cycle(alternative_bracketed_call_chain_choice_condition_expression_term)]
+#[cycle(parts)]
 fn alternative(
     source: &[u8],
     table: &[u16],
@@ -318,7 +318,7 @@ fn alternative(
 }
 
 // An expression, with `left` levels of nesting left, its own among them.
-#[cycle(alternative_bracketed_call_chain_choice_condition_expression_term)]
+#[cycle(parts)]
 pub fn expression(
     source: &[u8],
     table: &[u16],

@@ -69,6 +69,7 @@ fn ranged(low: u16, high: u16, kind: u16) -> u16
 }
 
 // 1 more than the slot of a unary word's last instruction, or 0.
+#[tactic(auto, using(crate::proofs::VocabularyLaws::vocabulary_unary_laws))]
 pub fn unary(kind: u16) -> u16
     ensures { result ≡ number_in unaries last_slot kind }
 {
@@ -76,6 +77,7 @@ pub fn unary(kind: u16) -> u16
 }
 
 // 1 more than a shift word's kind, or 0.
+#[tactic(auto, using(crate::proofs::VocabularyLaws::vocabulary_shift_word_laws))]
 pub fn shift_word(kind: u16) -> u16
     ensures { result ≡ number_in shifts shift_kind kind }
 {
@@ -83,6 +85,7 @@ pub fn shift_word(kind: u16) -> u16
 }
 
 // 1 more than the slot of a test that stands alone, or 0.
+#[tactic(auto, using(crate::proofs::VocabularyLaws::vocabulary_bare_laws))]
 pub fn bare(kind: u16) -> u16
     ensures { result ≡ number_in bares bare_slot kind }
 {
@@ -90,6 +93,7 @@ pub fn bare(kind: u16) -> u16
 }
 
 // 1 more than the slot of a single test, or 0.
+#[tactic(auto, using(crate::proofs::VocabularyLaws::vocabulary_test_laws))]
 pub fn test(kind: u16) -> u16
     ensures { result ≡ number_in tests test_slot kind }
 {
@@ -100,6 +104,7 @@ pub fn test(kind: u16) -> u16
 }
 
 // 1 more than an operator's opcode, or 0.
+#[tactic(auto, unfolding(crate::specs::Vocabulary::number_in, prelude::specs::Choice::find, layout::specs::Words::operator_form))]
 pub fn operator(kind: u16) -> u16
     ensures { result ≡ number_in operators operator_opcode kind }
 {
@@ -123,6 +128,7 @@ pub fn operator(kind: u16) -> u16
 }
 
 // 1 for a relation, else 0.
+#[tactic(auto, using(crate::proofs::VocabularyLaws::vocabulary_relation_laws))]
 pub fn relation(kind: u16) -> u16
     ensures { result ≡ number_in relations (λ _. 0) kind }
 {

@@ -83,6 +83,7 @@ fn flags_fit(machine: &[u32]) -> bool
 }
 
 // Whether the numbers are a call's: all there, words where words are due, and flags of 0 or 1.
+#[tactic(auto, unfolding(crate::specs::Export::fits_of))]
 fn fits(machine: &[u32], clock: &[u32], request: &[u32], report: &[u32]) -> bool
     ensures { result ≡ fits_of (numbers machine.now clock.now request.now report.now) }
 {
@@ -96,6 +97,7 @@ fn flag(machine: &[u32], place: usize) -> bool
     machine[place] == 1
 }
 
+#[tactic(auto, unfolding(crate::specs::Export::machine_of))]
 fn machine_of(machine: &[u32]) -> Machine
     requires { (length machine.now ≡ MACHINE) × WordsFit machine.now }
     ensures { result ≡ machine_of machine.now }
@@ -159,6 +161,7 @@ fn failure(ended: Outcome) -> u32
     }
 }
 
+#[tactic(auto, unfolding(crate::specs::Export::with_machine, crate::specs::Export::stored))]
 fn put_machine(numbers: &mut [u32], machine: Machine)
     requires { length numbers.old ≡ MACHINE }
     ensures { numbers.new ≡ with_machine numbers.old machine }
@@ -187,6 +190,7 @@ fn put_clock(numbers: &mut [u32], clock: Clock)
     }
 }
 
+#[tactic(auto, unfolding(crate::specs::Export::with_report, crate::specs::Export::stored))]
 fn put_report(numbers: &mut [u32], report: Report)
     requires { length numbers.old ≡ REPORT }
     ensures { numbers.new ≡ with_report numbers.old report }

@@ -1,0 +1,17 @@
+use borrow.Author.Rules.{rules}
+use mathlib.Core.Path.{◌≡◌, refl, ◌∙◌}
+use Prim.Native.Nat.{◌-◌, ◌≤◌}
+use native.Mathlib.Omega.{arith}
+use lib.ListN.{length}
+use lib.Seq.{sets, length-sets}
+use Rattle.layout.specs.Words.{unaries_words}
+use Rattle.expressions.specs.Chains.{unaries_of}
+use Rattle.expressions.specs.Unaries.{values}
+use Rattle.expressions.proofs.UnaryLaws.{to_come, none_stored, runs_out, stops, turns, room, still_room, places}
+use Rattle.expressions.proofs.unaries.place_unaries.Goals as goal
+
+pub overflow_sub-place : goal.overflow_sub-place
+overflow_sub-place c = room (turns _ _ _ c.token_at-t.ensures c.unary-last.ensures c.loop-k-test.true c.if-last-eq0.false) c.width-place.ensures c.loop-k.invariant.2
+
+pub loop-k-preserved : goal.loop-k-preserved
+loop-k-preserved c = (simp (c.place_unary.ensures, length-sets) c.loop-k.invariant.0, omega arith, still_room (turns _ _ _ c.token_at-t.ensures c.unary-last.ensures c.loop-k-test.true c.if-last-eq0.false) c.width-place.ensures c.loop-k.invariant.2, places (turns _ _ _ c.token_at-t.ensures c.unary-last.ensures c.loop-k-test.true c.if-last-eq0.false) c.width-place.ensures _ c.loop-k.invariant.2 c.place_unary.ensures ∙ c.loop-k.invariant.3)

@@ -1,0 +1,19 @@
+use borrow.Author.Rules.{rules}
+use mathlib.Core.Path.{◌≡◌, refl, ◌∙◌}
+use Prim.Native.Nat.{◌-◌, ◌≤◌}
+use native.Mathlib.Omega.{arith}
+use lib.ListN.{length}
+use lib.Seq.{sets, length-sets}
+use Rattle.layout.specs.Words.{unaries_words}
+use Rattle.expressions.specs.Chains.{unaries_of}
+use Rattle.expressions.specs.Unaries.{values}
+use Rattle.expressions.proofs.UnaryLaws.{to_come, none_stored, runs_out, stops, turns, room, still_room, places}
+use Rattle.expressions.proofs.unaries.place_unaries.Given as goal
+
+-- The invariant: the words still to come, placed below `place`, make up the image that is promised.
+abbrev pub invariant-loop-k : goal.invariant-loop-k
+invariant-loop-k l =
+    (length l.image ≡ length l.initial.image) × (l.place ≤ l.end) × (length (to_come l.source l.k l.i) ≤ l.place) × (sets l.image (l.place - length (to_come l.source l.k l.i)) (values (to_come l.source l.k l.i)) ≡ sets l.initial.image (l.end - length (unaries_words (unaries_of l.source l.at))) (values (unaries_words (unaries_of l.source l.at))))
+
+abbrev pub decreases-loop-k : goal.decreases-loop-k
+decreases-loop-k l = l.k

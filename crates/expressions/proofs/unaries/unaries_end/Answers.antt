@@ -1,0 +1,13 @@
+use borrow.Author.Rules.{rules}
+use mathlib.Core.Path.{◌≡◌, refl}
+use Prim.Native.Nat.{◌+◌, ◌≤◌, min}
+use native.Mathlib.Omega.{arith}
+use lib.ListN.{length}
+use Rattle.layout.specs.Words.{unaries_words}
+use Rattle.layout.specs.Emission.{last_address}
+use Rattle.expressions.specs.Chains.{unaries_of}
+use Rattle.expressions.proofs.UnaryLaws.{to_come, none_counted, runs_out, stops, turns, advances}
+use Rattle.expressions.proofs.unaries.unaries_end.Goals as goal
+
+pub loop-k-preserved : goal.loop-k-preserved
+loop-k-preserved c = (let h = c.advance-end.ensures in omega (arith, h), advances (turns _ _ _ c.token_at-t.ensures c.unary.ensures c.loop-k-test.true c.if-unary-eq0.false) c.width.ensures _ c.advance-end.ensures c.loop-k.invariant.1)
