@@ -270,11 +270,11 @@ unfolding computed
 names_out_of_range = refl
 
 -- a pool in each sector, with what that sector names and nothing of the one before it (A9): the link, LDA 4, ADD 5, STA A, JMP* '1000, 4, 5; from '2000: LDA 5, ADD 6, HLT, 5, 6
-abbrev two_sectors_lem : Result
-two_sectors_lem = compile_def (bytes ".BEGIN .INTEGER A; .PROCEDURE P; .BEGIN A = 4 + 5 .END; .NEXTSECTOR; @ = 5 + 6 .END")
+abbrev two_sectors : Result
+two_sectors = compile_def (bytes ".BEGIN .INTEGER A; .PROCEDURE P; .BEGIN A = 4 + 5 .END; .NEXTSECTOR; @ = 5 + 6 .END")
 
 sector_pools :
-    part 0o200 3 two_sectors_lem ∷ part 0o1000 8 two_sectors_lem ∷ part 0o1777 7 two_sectors_lem ∷ []
+    part 0o200 3 two_sectors ∷ part 0o1000 8 two_sectors ∷ part 0o1777 7 two_sectors ∷ []
     ≡ (0 ∷ 0o001000 ∷ 0 ∷ []) ∷ (0 ∷ 0o005005 ∷ 0o015006 ∷ 0o010200 ∷ 0o103000 ∷ 4 ∷ 5 ∷ 0 ∷ []) ∷ (0 ∷ 0o005003 ∷ 0o015004 ∷ 0o000000 ∷ 5 ∷ 6 ∷ 0 ∷ []) ∷ []
 unfolding computed
 sector_pools = refl

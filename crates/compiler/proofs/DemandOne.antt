@@ -35,7 +35,7 @@ module _ (source image scratch : List ℕ) (r : Answer) (image' : List ℕ) wher
   unfolding answer_of image_after
   by_lengths true true l s a i = by_text (eqb-true (length image) memory_words l) (leb-true scratch_words (length scratch) s) (compile_def source) refl a i
   by_lengths true false l s a i = CompileEnds.short_scratch (eqb-true (length image) memory_words l) (leb-false scratch_words (length scratch) s) a i
-  by_lengths false d l s a i = CompileEnds.wrong_image_lem (eqb-false (length image) memory_words l) a i
+  by_lengths false d l s a i = CompileEnds.wrong_image (eqb-false (length image) memory_words l) a i
 
 -- ---- Runs
 

@@ -22,7 +22,7 @@ one_result source image scratch₁ scratch₂ l m = rw (le-leb _ _ l, le-leb _ _
 -- how a call that answers 2 has ended
 only_two : {source image scratch image' : List ℕ} {r : Answer} {at : ℕ} → CompileEnds source image scratch r image' → r ≡ Answer.Failed 2 at
     → (length image ≡ memory_words) × (length scratch < scratch_words)
-only_two (CompileEnds.wrong_image_lem l e i) q = let z : ◌≡◌ {A = ℕ} 1 2 = cc in absurd (omega arith)
+only_two (CompileEnds.wrong_image l e i) q = let z : ◌≡◌ {A = ℕ} 1 2 = cc in absurd (omega arith)
 only_two (CompileEnds.short_scratch l s e i) q = (l, s)
 only_two (CompileEnds.failed l s n at e h i) q = let z : ◌≡◌ {A = ℕ} n 2 = cc in absurd (omega (arith, h.least))
 only_two (CompileEnds.accepted l s b entry words globals e i) q = let z : ◌≡◌ {A = ℕ} 0 1 = cc in absurd (omega arith)

@@ -12,7 +12,7 @@ use Rattle.layout.specs.Addresses.{memory_words}
 -- of `compile` (demand 1a); each way to fail leaves the image as it was (demand 1c)
 pub data CompileEnds (source image scratch : List ℕ) (r : Answer) (image' : List ℕ) : Type 0 where
   -- an image of another length: 1 at 0 (F1)
-  wrong_image_lem : (length image ≡ memory_words → ⊥) → r ≡ Answer.Failed 1 0 → image' ≡ image → CompileEnds source image scratch r image'
+  wrong_image : (length image ≡ memory_words → ⊥) → r ≡ Answer.Failed 1 0 → image' ≡ image → CompileEnds source image scratch r image'
   -- too little scratch: 2 at 0 (F2)
   short_scratch : length image ≡ memory_words → length scratch < scratch_words → r ≡ Answer.Failed 2 0 → image' ≡ image → CompileEnds source image scratch r image'
   -- a failure of the source: 3 to 14, at an offset in it (J4)

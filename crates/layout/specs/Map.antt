@@ -20,9 +20,9 @@
 -- A literal is addressed in the pool of its sector. That pool begins where the sector's code ends, and it is complete only when the sector is closed: by `.NEXTSECTOR`, and the last by the program's end.
 -- So the plan of each sector, its pool and where that begins, is found first (`plans_from`), and the words are placed with the plan of the sector that is filled then (`place_all`). Two sectors:
 --
---     '1000                      pool_at               '2000                                 pool_at
+--     '1000                      pool_at              '2000                                 pool_at
 --       │ procedures of sector 1   │ pool │ not used    │ procedures of sector 2, main body   │ pool │ not used
---                                  └ plan_of 0                                                 └ plan_of 1
+--                                  └ plan_of 0                                                └ plan_of 1
 --
 -- `plan_of` k is the plan of the sector that is filled after k others were closed.
 use Rattle.std.specs.Prelude.{ℕ, zero, suc, ◌+◌, ◌-◌, ◌%◌, ◌<◌, ◌≡◌, Bool, true, false, List, [], ◌∷◌, ◌++◌, map, leb, eqb, length, get_or, take, drop, replicate}

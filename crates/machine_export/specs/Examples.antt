@@ -92,14 +92,14 @@ endings = refl
 
 -- ---- What fits (R11)
 
-abbrev with_machine_lem : List ℕ → Numbers
-with_machine_lem m = numbers m (replicate 17 0) (replicate 2 0) (replicate 3 0)
+abbrev of_machine : List ℕ → Numbers
+of_machine m = numbers m (replicate 17 0) (replicate 2 0) (replicate 3 0)
 
 -- the largest that fit; then A, B, P, C, each switch and halted too large in turn
 fits :
     map {B = Bool} fits_of
     (numbers (65535 ∷ 65535 ∷ 1 ∷ 65535 ∷ 1 ∷ 1 ∷ 1 ∷ 1 ∷ 1 ∷ []) (replicate 17 4294967295) (replicate 2 4294967295) (replicate 3 4294967295) ∷
-    map {B = Numbers} with_machine_lem
+    map {B = Numbers} of_machine
     ((65536 ∷ replicate 8 0) ∷ (0 ∷ 65536 ∷ replicate 7 0) ∷ (0 ∷ 0 ∷ 0 ∷ 65536 ∷ replicate 5 0) ∷
     (0 ∷ 0 ∷ 2 ∷ replicate 6 0) ∷ (0 ∷ 0 ∷ 0 ∷ 0 ∷ 2 ∷ replicate 4 0) ∷ (0 ∷ 0 ∷ 0 ∷ 0 ∷ 0 ∷ 2 ∷ replicate 3 0) ∷
     (0 ∷ 0 ∷ 0 ∷ 0 ∷ 0 ∷ 0 ∷ 2 ∷ replicate 2 0) ∷ (0 ∷ 0 ∷ 0 ∷ 0 ∷ 0 ∷ 0 ∷ 0 ∷ 2 ∷ 0 ∷ []) ∷ (0 ∷ 0 ∷ 0 ∷ 0 ∷ 0 ∷ 0 ∷ 0 ∷ 0 ∷ 2 ∷ []) ∷ []))

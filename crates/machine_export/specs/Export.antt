@@ -128,4 +128,4 @@ numbers_left n image =
 
 -- its answer says whether the numbers were a call's, and so whether there was a run
 abbrev pub Called : Numbers → List ℕ → Bool → Numbers → List ℕ → Type 0
-Called n image answer n_after image_after_lem = (answer ≡ fits_of n) × (image_after_lem ≡ image_left n image) × (n_after ≡ numbers_left n image)
+Called n image answer n_after image_after = (answer ≡ fits_of n) × (image_after ≡ image_left n image) × (n_after ≡ numbers_left n image)

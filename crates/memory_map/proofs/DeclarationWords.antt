@@ -12,7 +12,7 @@ use Rattle.layout.specs.Words.{Sym}
 use Rattle.layout.specs.Map.{Role, Frame, role_of, fixed_words, item_words, local_items, elements}
 use Rattle.parsing_laws.specs.WellFormed.{item_kinds}
 use Rattle.memory_map.specs.Laid.{Map}
-use Rattle.memory_map.proofs.Bodies.{Fixed, none, word}
+use Rattle.memory_map.proofs.Bodies.{Fixed}
 
 on : (a n : ℕ) → suc a + n ≡ a + suc n
 on a n = omega arith

@@ -14,7 +14,7 @@ use Rattle.tree.specs.Tree.{Id, CellId, Array, Operand, Subscript, Cell, Unary, 
 use Rattle.layout.specs.Words.{Sym, ◌⧺◌, Plain, plain_words, unary_plain, shift_plain, after, load_words, above_words, below_words, test_words, subscript_words, reach_words, instruction_word, cell_words, unary_words, unaries_words, operator_form, operation_words, operations_words, Control, controls, control_word, control_words, expr_end, term_end, cond_end, target_cell, stmt_end, stmts_end, expr_words, term_words, cond_words, stmt_words, stmts_words}
 use Rattle.layout.specs.Map.{Role, saved_role}
 use Rattle.layout.specs.Addresses.{saved_word}
-use Rattle.memory_map.specs.Laid.{Map, Sits, Stops, Refers, Direct, named, ArrayAt, ProcedureWord, Known, Knows, LaidLoad, TestWords, LaidTest, LaidSubscript, LaidCell, LaidOn, LaidJump, LaidCall, LaidPlain, LaidUnary, LaidUnaries, LaidOperations, ControlSits, LaidControls, LaidExpr, LaidTerm, LaidCond, LaidStmt, LaidStmts}
+use Rattle.memory_map.specs.Laid.{Map, Sits, Stops, Refers, Direct, ArrayAt, ProcedureWord, Known, Knows, LaidLoad, TestWords, LaidTest, LaidSubscript, LaidCell, LaidOn, LaidJump, LaidCall, LaidPlain, LaidUnary, LaidUnaries, LaidOperations, ControlSits, LaidControls, LaidExpr, LaidTerm, LaidCond, LaidStmt, LaidStmts}
 use Rattle.parsing_laws.specs.WellFormed.{Context, ArrayOk, ProcedureOk, CellOk, OperationsOk, TermOk, CondOk, ExprBy, ExprOk, TargetOk, StmtBy, StmtsBy, IsEmpty, StmtOk}
 use Rattle.layout_laws.proofs.Spans.{Span, join, same, along, span_expr, span_term, span_cond, span_stmt, span_stmts}
 

@@ -8,13 +8,13 @@ use mathlib.Core.List.{List, [], ◌∷◌, ◌++◌, map, append-nil, Memᴰ}
 use native.Mathlib.Omega.{arith}
 use lib.ListN.{length, get_or, length-append, get_or-append}
 use Rattle.tree.specs.Tree.{Id, CellId, Array, Operand, Name, Item, Stmts, Declaration, Program, is_inside}
-use Rattle.layout.specs.Words.{after, procedure_words, main_words}
+use Rattle.layout.specs.Words.{procedure_words, main_words}
 use Rattle.layout.specs.Pool.{literals_of, index_of}
 use Rattle.layout.specs.Allocation.{Allocation, start, sector_of, allocated, local_words, link_of, allocate, finish}
 use Rattle.layout.specs.Map.{Frame, address_of, Role, Plan, frame, fixed_words, place_all, plan_of, front, Home, map_at}
 use Rattle.tree.specs.Variables.{item_variables, elements_of, declared_by, variables_of, constants_of, Declares}
 use Rattle.parsing_laws.specs.WellFormed.{Kind, IdOk, kinds_of, WellFormed}
-use Rattle.memory_map.specs.Laid.{Direct, named, literal}
+use Rattle.memory_map.specs.Laid.{Direct}
 use Rattle.memory_map.proofs.Bodies.{Near, Body, Placement}
 use Rattle.memory_map.proofs.Placed.{placed_in, front_words, front_in}
 use Rattle.parsing_laws.proofs.Parsed.Scopes.{kinds_append}

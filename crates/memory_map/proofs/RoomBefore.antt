@@ -1,5 +1,5 @@
 -- What well-formed declarations leave of room, each under the allocation before it, from the front.
-use Prim.Native.Nat.{◌+◌, ◌≤◌}
+use Prim.Native.Nat.{◌≤◌}
 use mathlib.Core.List.{List, [], ◌∷◌, ◌++◌, foldl}
 use native.Mathlib.Nat.{le_refl, le_trans}
 use native.Mathlib.Omega.{arith}

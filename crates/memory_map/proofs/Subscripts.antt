@@ -1,6 +1,6 @@
 -- A word is one of an array's subscripts exactly if the element that it names is a variable of the program.
 use Prim.Native.Nat.{ℕ, zero, suc, ◌+◌, ◌-◌, ◌≤◌, ◌<◌}
-use mathlib.Core.Path.{◌≡◌, refl, sym, ap, subst, ◌∙◌}
+use mathlib.Core.Path.{◌≡◌, refl, sym, ap, subst}
 use mathlib.Core.Bool.{Bool, true, false, cond}
 use mathlib.Core.Logic.{◌⊎◌, inl, inr}
 use mathlib.Core.List.Memᴰ
@@ -13,10 +13,10 @@ use borrow.Author.Tests.{leb-true, ltb-true, le-leb, lt-ltb}
 use Rattle.tree.specs.Tree.{Id, CellId, Array, Name, Item, Declaration, Program, is_inside}
 use Rattle.tree.specs.Symbols.{words_taken}
 use Rattle.tree.specs.Variables.{item_variables, locals_by, elements_of, declared_by, variables_of, arrays_of, Elements}
-use Rattle.layout.specs.Allocation.{Allocation, start}
+use Rattle.layout.specs.Allocation.{Allocation}
 use Rattle.parsing_laws.specs.WellFormed.{All, Kind, kinds_of, Flagged, WellFormed}
 use Rattle.memory_map.proofs.Homes.{either, which_element}
-use Rattle.memory_map.proofs.Apart.{Of, From, from, elements_in, variables, variable_key, variable_from, local_variable, element_in}
+use Rattle.memory_map.proofs.Apart.{From, from, elements_in, variables, variable_key, variable_from, local_variable, element_in}
 use Rattle.memory_map.proofs.RoomBefore.{AllFit, all_fit}
 use Rattle.memory_map.proofs.RoomBefore as fit
 

@@ -1,5 +1,5 @@
 -- No cell and no link stands twice in the map of a program, and its cells are those that it declares.
-use Prim.Native.Nat.{ℕ, suc, ◌+◌, ◌-◌, ◌≤◌}
+use Prim.Native.Nat.{ℕ, ◌+◌, ◌-◌, ◌≤◌}
 use mathlib.Core.Path.{◌≡◌, refl, sym, ap, subst, ◌∙◌}
 use mathlib.Core.List.Memᴰ
 use mathlib.Core.List.{List, [], ◌∷◌, ◌++◌, map, Memᴰ}
@@ -20,7 +20,7 @@ use Rattle.memory_map.proofs.Placed.{front_words}
 use Rattle.memory_map.proofs.DeclarationWords.{local_length}
 use Rattle.memory_map.proofs.RoomBefore.{Needs, AllFit, all_fit, main_below, array_down, arrays_down}
 use Rattle.memory_map.proofs.RoomBefore as fit
-use Rattle.memory_map.proofs.HomesByNumber.{spots_from, Spotted, AllSpotted, last, next, all_spotted}
+use Rattle.memory_map.proofs.HomesByNumber.{spots_from, Spotted, AllSpotted, next, all_spotted}
 
 -- ---- The link follows the locals
 

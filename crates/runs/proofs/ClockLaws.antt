@@ -17,7 +17,7 @@ use Rattle.machine.specs.Run.{Ran}
 use Rattle.machine.proofs.Ticks.{common_after, counts_after}
 use Rattle.runs.specs.Outcomes.{of_cooperative}
 use Rattle.runs.specs.Runs.{Turn}
-use Rattle.runs.specs.Calls.{RunCall, asked, RunCalled, call_of}
+use Rattle.runs.specs.Calls.{RunCall, RunCalled, call_of}
 use Rattle.runs.specs.ClockLaws.{CallsOn, none, one, cooperative_of, all_steps, steps_of, Counted, Balanced, ClockLaws}
 use Rattle.runs.proofs.Refusals.{refusals}
 

@@ -53,17 +53,17 @@ halted_before = call_of (turn 0 9) to_the_halt.report.clock (state to_the_halt.r
 abbrev no_count : RunCall
 no_count = call_of (turn 16 9) halted_before.report.clock (at 5)
 
-abbrev over_budget_lem : RunCall
-over_budget_lem = call_of (turn 1 1000001) no_count.report.clock (at 5)
+abbrev over_budget : RunCall
+over_budget = call_of (turn 1 1000001) no_count.report.clock (at 5)
 
 abbrev other_machine : RunCall
-other_machine = call_of (turn 1 9) over_budget_lem.report.clock (at 9)
+other_machine = call_of (turn 1 9) over_budget.report.clock (at 9)
 
 abbrev failing : RunCall
 failing = call_of (turn 15 9) other_machine.report.clock (state (at 5).machine (set image 8 0o026000))
 
 abbrev calls : List RunCall
-calls = two_steps ∷ to_the_halt ∷ halted_before ∷ no_count ∷ over_budget_lem ∷ other_machine ∷ failing ∷ []
+calls = two_steps ∷ to_the_halt ∷ halted_before ∷ no_count ∷ over_budget ∷ other_machine ∷ failing ∷ []
 
 steps : map {B = Outcome × ℕ} (λ (c : RunCall). (c.report.outcome, c.report.steps)) calls
     ≡ (Spent, 2) ∷ (Halted, 2) ∷ (Halted, 0) ∷ (Failed 27, 0) ∷ (Failed 22, 0) ∷ (Halted, 1) ∷ (Failed 20, 3) ∷ []
@@ -82,7 +82,7 @@ on_one_record =
     (one to_the_halt (record { reported = refl; left = refl })
     (one halted_before (record { reported = refl; left = refl })
     (one no_count (record { reported = refl; left = refl })
-    (one over_budget_lem (record { reported = refl; left = refl })
+    (one over_budget (record { reported = refl; left = refl })
     (one other_machine (record { reported = refl; left = refl })
     (one failing (record { reported = refl; left = refl }) none))))))
 

@@ -10,7 +10,6 @@ use lib.ListN.{length, get_or, drop, drop_of_length-le}
 use lib.Seq.{drop-cons}
 use Rattle.prelude.specs.Choice.{whether}
 use Rattle.source.specs.Bytes.{same_bytes}
-use Rattle.source.specs.Kinds
 
 pub lengths : (a b : List ℕ) → (length a ≡ length b → ⊥) → same_bytes a b ≡ false
 unfolding same_bytes

@@ -6,7 +6,6 @@ use mathlib.Core.Logic.{⊎_elim}
 use native.Mathlib.Nat.{eq-or-lt_of_le}
 use native.Mathlib.Omega.{arith}
 use lib.Dec.{T}
-use Rattle.source.specs.Kinds
 
 pub and_left : (a b : Bool) → T (a && b) → T a
 and_left true b t = tt

@@ -76,3 +76,7 @@ module _ {f : Bases} {a b : Emitted} {part : Part} (source : List ℕ) (names : 
       go true (got e n) c = relabel (Term.call_with p e) (Stmt.call_with p e) (λ l. l) c
       go true (failed k o) c = refail c
       go false g c = relabel (Term.call p) (Stmt.call p) (λ l. l) c
+
+pub ruleset form_laws = (stored_as, to_a_lem, to_x, called)
+
+pub ruleset assignment_element_laws = (stored_as)

@@ -58,3 +58,7 @@ unfolding next with words_of stmts_words ◌⧺◌
 listed_next stmt i none l r = reads_as Stmts.one r refl refl (λ s m. lays.same (λ at. ap (stmt_words s) (add-zero at)) (lays.sequence l m)) (lays.kept_then l.kept)
 listed_next stmt i (some ss) l r =
     reads_as (Stmts.more ss) r refl refl (λ s m. lays.same (λ at. ap (λ n. stmts_words ss at ⧺ stmt_words s n) (ends.stmts_end_lem ss at)) (lays.sequence l m)) (lays.kept_then l.kept)
+
+pub ruleset compound_laws = (compounded)
+
+pub ruleset listed_laws = (listed_first, listed_next)

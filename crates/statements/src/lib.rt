@@ -28,6 +28,7 @@ mod counting;
 const LEVELS: usize = 33;
 
 // A part with the token of a kind after it.
+#[tactic(auto, unfolding(crate::specs::Forms::followed_part))]
 fn followed_by(source: &[u8], part: Part, kind: u16) -> Part
     ensures { result ≡ followed_part source.now kind part }
 {
@@ -50,7 +51,8 @@ fn ends_statement(t: Token) -> bool
 
 // A condition, the word after it, and the statement that it guards; the jump where it fails is not filled in yet.
 // `left` is how many levels are left for this statement, its own among them; `inner` for those in it.
-#[cycle(compound_for_statement_form_guarded_if_statement_listed_statement_when_statement_while_statement)]
+#[cycle(parts)]
+#[tactic(auto, using(parser::proofs::Answers::then_got, parser::proofs::ReadLaws::came, parser::proofs::ReadLaws::pass, emitter::proofs::Lays::kept_then, crate::proofs::Branches::guarded_laws))]
 fn guarded(
     source: &[u8],
     table: &[u16],
@@ -94,7 +96,8 @@ fn guarded(
 }
 
 // An `.IF` that is a statement (S4, W10).
-#[cycle(compound_for_statement_form_guarded_if_statement_listed_statement_when_statement_while_statement)]
+#[cycle(parts)]
+#[tactic(auto, using(expressions::proofs::Leaves::hole_later, parser::proofs::Answers::then_got, parser::proofs::ReadLaws::came, parser::proofs::ReadLaws::pass, emitter::proofs::Lays::kept_then, crate::proofs::Branches::if_statement_laws))]
 fn if_statement(
     source: &[u8],
     table: &[u16],
@@ -142,7 +145,8 @@ fn if_statement(
 }
 
 // `.WHEN` condition `.THEN` statement (W11).
-#[cycle(compound_for_statement_form_guarded_if_statement_listed_statement_when_statement_while_statement)]
+#[cycle(parts)]
+#[tactic(auto, using(parser::proofs::Answers::then_got, parser::proofs::ReadLaws::came, parser::proofs::ReadLaws::pass, crate::proofs::Branches::when_statement_laws))]
 fn when_statement(
     source: &[u8],
     table: &[u16],
@@ -183,7 +187,8 @@ fn when_statement(
 }
 
 // `.WHILE` condition `.DO` statement (W11).
-#[cycle(compound_for_statement_form_guarded_if_statement_listed_statement_when_statement_while_statement)]
+#[cycle(parts)]
+#[tactic(auto, using(parser::proofs::Answers::then_got, parser::proofs::ReadLaws::came, parser::proofs::ReadLaws::pass, crate::proofs::Branches::while_statement_laws))]
 fn while_statement(
     source: &[u8],
     table: &[u16],
@@ -226,7 +231,8 @@ fn while_statement(
 }
 
 // `.FOR` integer or `#` = its first value, `.DO` statement (W13).
-#[cycle(compound_for_statement_form_guarded_if_statement_listed_statement_when_statement_while_statement)]
+#[cycle(parts)]
+#[tactic(auto, using(parser::proofs::Answers::then_got, parser::proofs::ReadLaws::came, parser::proofs::ReadLaws::pass, emitter::proofs::Lays::kept_then, crate::proofs::Forms::for_statement_laws, crate::proofs::CountingLaws::for_statement_laws))]
 fn for_statement(
     source: &[u8],
     table: &[u16],
@@ -274,7 +280,8 @@ fn for_statement(
 }
 
 // Statements of a level, separated by `;`. Each `;` takes a byte, so the source has as many bytes as there are turns.
-#[cycle(compound_for_statement_form_guarded_if_statement_listed_statement_when_statement_while_statement)]
+#[cycle(parts)]
+#[tactic(auto, using(parser::proofs::ReadLaws::list_failed, parser::proofs::ReadLaws::list_zero, parser::proofs::ReadLaws::list_last, parser::proofs::ReadLaws::sequel_next, crate::proofs::Lists::listed_laws))]
 fn listed(
     source: &[u8],
     table: &[u16],
@@ -311,7 +318,8 @@ fn listed(
 }
 
 // `.BEGIN` statements `.END`.
-#[cycle(compound_for_statement_form_guarded_if_statement_listed_statement_when_statement_while_statement)]
+#[cycle(parts)]
+#[tactic(auto, using(crate::proofs::Forms::compound_laws, crate::proofs::Lists::compound_laws))]
 fn compound(
     source: &[u8],
     table: &[u16],
@@ -335,7 +343,8 @@ fn compound(
 }
 
 // A statement from after its first token.
-#[cycle(compound_for_statement_form_guarded_if_statement_listed_statement_when_statement_while_statement)]
+#[cycle(parts)]
+#[tactic(auto, using(crate::proofs::AssignmentLaws::form_laws))]
 fn form(
     source: &[u8],
     table: &[u16],
@@ -365,7 +374,8 @@ fn form(
 }
 
 // A statement, with `left` levels of nesting left, its own among them; an empty one has none of its own.
-#[cycle(compound_for_statement_form_guarded_if_statement_listed_statement_when_statement_while_statement)]
+#[cycle(parts)]
+#[tactic(auto, using(parser::proofs::Answers::got_read, parser::proofs::Answers::got_failed, parser::proofs::Answers::got_with_lem, parser::proofs::ReadLaws::reads_on, emitter::proofs::Lays::kept_here, emitter::proofs::Lays::nothing, crate::proofs::Starts::statement_laws))]
 fn statement(
     source: &[u8],
     table: &[u16],
@@ -407,6 +417,7 @@ fn statement(
 }
 
 // The outermost statements.
+#[tactic(auto, unfolding(grammar::specs::Statements::parse_outermost))]
 pub fn statements(
     source: &[u8],
     table: &[u16],

@@ -10,7 +10,7 @@ use Rattle.machine.specs.declared.Outcome.{Outcome}
 use Rattle.machine.specs.declared.Outcome.TheVariants.{Halted, Spent, Failed}
 use Rattle.machine.specs.Failure.{refused}
 use Rattle.machine.specs.State.{State, Good}
-use Rattle.machine.specs.Run.{work, no_work, add_work, Ran, ran, idle, more, run_from, run_def}
+use Rattle.machine.specs.Run.{no_work, add_work, Ran, ran, idle, more, run_from, run_def}
 use Rattle.machine.proofs.RunSteps.{add_work_none, run_failed}
 use Rattle.runs.specs.Outcomes.{Says}
 use Rattle.runs.specs.Runs.{runs_def}

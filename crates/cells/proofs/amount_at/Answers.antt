@@ -1,6 +1,5 @@
 use borrow.Author.Tests.{le-leb, lt-leb}
 use Rattle.cells.proofs.ConstantLaws.{range_failed, range_in, range_out}
-use borrow.Author.Rules.{rules}
 use Rattle.cells.proofs.amount_at.Goals.{then-read-ge1+else-read-le15, else-read-ge1}
 use Rattle.cells.proofs.amount_at.Goals as goal
 

@@ -4,7 +4,6 @@ use Rattle.symbols.specs.Trees.{tree_symbol}
 use Rattle.parser.specs.Answers.{read_or}
 use Rattle.parser.proofs.Answers.{refused_with}
 use Rattle.cells.proofs.StartNames.{constant_is, no_constant}
-use borrow.Author.Rules.{rules}
 use borrow.Enum.Refused.{opened}
 use Rattle.cells.proofs.constant_at.Goals as goal
 

@@ -1,6 +1,5 @@
 use borrow.Author.Tests.{le-leb, lt-leb}
 use Rattle.cells.proofs.ConstantLaws.{range_failed, range_in, range_out}
-use borrow.Author.Rules.{rules}
 use Rattle.cells.proofs.size_at.Goals as goal
 
 pub returns-in_default : goal.returns-in_default

@@ -1,7 +1,5 @@
 use native.Mathlib.Omega.{arith}
 use Rattle.digits.proofs.Laws.{then, no_digits, last_digit, more_digits}
-use Prim.Native.Nat.{ℕ, ◌<◌}
-use borrow.Author.Rules.{rules}
 use Rattle.digits.proofs.+decimal_digits.Goals as goal
 
 pub returns-then-most-eq0 : goal.returns-then-most-eq0

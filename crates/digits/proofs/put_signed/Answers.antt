@@ -1,5 +1,4 @@
 use Rattle.digits.proofs.Laws.{then, plus, minus}
-use borrow.Author.Rules.{rules}
 use Rattle.digits.proofs.put_signed.Goals as goal
 
 pub returns-then-word-lt-SIGN : goal.returns-then-word-lt-SIGN

@@ -1,8 +1,6 @@
-use native.Mathlib.Omega.{arith}
 use Prim.Native.Nat.{◌-◌, ◌≤◌}
-use lib.ListN.{length, drop, drop_of_length-le}
-use Rattle.digits.proofs.Laws.{Left, begins, goes_on, is_whole, next_byte}
-use borrow.Author.Rules.{rules}
+use lib.ListN.{length, drop}
+use Rattle.digits.proofs.Laws.{Left}
 use Rattle.digits.proofs.put_text.Given as goal
 
 -- The invariant: what is written, with the text from `i` on, gives the whole text.

@@ -3,7 +3,6 @@ use Rattle.instruction.specs.Slot.{NOP}
 use Rattle.symbols.specs.Trees.{tree_id, tree_operand}
 use Rattle.layout.specs.Words.{◌⧺◌, above_words}
 use Rattle.emitter.proofs.EmittedWords.{emits_then, emits_generic, emits_saved, emits_stop}
-use borrow.Author.Rules.{rules}
 use Rattle.emitter.proofs.emit_above.Goals as goal
 
 pub returns : goal.returns

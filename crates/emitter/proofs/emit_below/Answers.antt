@@ -3,7 +3,6 @@ use Rattle.instruction.specs.Slot.{NOP, SKP}
 use Rattle.symbols.specs.Trees.{tree_operand}
 use Rattle.layout.specs.Words.{◌⧺◌, below_words}
 use Rattle.emitter.proofs.EmittedWords.{emits_then, emits_generic, emits_saved, emits_stop}
-use borrow.Author.Rules.{rules}
 use Rattle.emitter.proofs.emit_below.Goals as goal
 
 pub returns : goal.returns

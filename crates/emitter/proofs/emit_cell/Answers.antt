@@ -1,6 +1,5 @@
 use Rattle.layout.specs.Words.{cell_words}
 use Rattle.emitter.proofs.EmittedWords.{emits_then}
-use borrow.Author.Rules.{rules}
 use Rattle.emitter.proofs.emit_cell.Goals as goal
 
 pub returns : goal.returns

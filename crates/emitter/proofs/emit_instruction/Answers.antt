@@ -1,7 +1,6 @@
 use Rattle.symbols.specs.Trees.{tree_cell}
 use Rattle.layout.specs.Words.{instruction_word}
 use Rattle.emitter.proofs.EmittedWords.{emits_through}
-use borrow.Author.Rules.{rules}
 use Rattle.emitter.proofs.emit_instruction.Goals as goal
 
 pub returns-in-Item : goal.returns-in-Item

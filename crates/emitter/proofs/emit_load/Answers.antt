@@ -1,7 +1,6 @@
 use Rattle.symbols.specs.Trees.{tree_subscript}
 use Rattle.layout.specs.Words.{load_words}
 use Rattle.emitter.proofs.EmittedWords.{emits_none}
-use borrow.Author.Rules.{rules}
 use Rattle.emitter.proofs.emit_load.Goals as goal
 
 pub returns-in_default : goal.returns-in_default

@@ -2,7 +2,6 @@ use mathlib.Core.Path.{ap, ◌∙◌}
 use Rattle.layout.specs.Emission.{emit_all}
 use Rattle.emitter.specs.Emitted.{pooled_all}
 use Rattle.emitter.proofs.EmittedWords.{memory_word_lem, memory_literals}
-use borrow.Author.Rules.{rules}
 use Rattle.emitter.proofs.emit_memory.Goals as goal
 
 pub returns : goal.returns

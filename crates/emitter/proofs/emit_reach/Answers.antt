@@ -1,7 +1,6 @@
 use Rattle.symbols.specs.Trees.{tree_cell}
 use Rattle.layout.specs.Words.{test_words, subscript_words, reach_words}
 use Rattle.emitter.proofs.EmittedWords.{emits_then, emits_none}
-use borrow.Author.Rules.{rules}
 use Rattle.emitter.proofs.emit_reach.Goals as goal
 
 pub returns-in_default : goal.returns-in_default

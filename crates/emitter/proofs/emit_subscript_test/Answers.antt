@@ -1,6 +1,5 @@
 use Rattle.layout.specs.Words.{test_words}
 use Rattle.emitter.proofs.EmittedWords.{emits_then}
-use borrow.Author.Rules.{rules}
 use Rattle.emitter.proofs.emit_subscript_test.Goals as goal
 
 pub returns : goal.returns

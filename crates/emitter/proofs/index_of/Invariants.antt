@@ -1,10 +1,7 @@
 use mathlib.Core.Path.{◌≡◌}
 use Prim.Native.Nat.{◌+◌, ◌-◌, ◌≤◌}
-use native.Mathlib.Omega.{arith}
-use borrow.Author.Rules.{rules}
 use lib.ListN.{take, drop}
 use Rattle.layout.specs.Pool.{index_of}
-use Rattle.emitter.proofs.EmittedPools.{found, passed, missed}
 use Rattle.emitter.proofs.index_of.Given as goal
 
 -- The invariant: the place in the whole is `i` more than the place in what is left from `i` on.

@@ -1,9 +1,8 @@
-use Rattle.std.proofs.Common.{◌≡◌, ◌-◌, ◌≤◌, length, sym, refl, ap, ◌∙◌, subst, arith, rules}
-use Rattle.machine.specs.State.{state, Good}
-use Rattle.machine.specs.Step.{step_def, made, failed}
-use Rattle.machine.specs.Run.{work, more, run_from}
-use Rattle.machine.proofs.Good.{GoodStep, step_good, step_made, step_failed}
-use Rattle.machine.proofs.RunSteps.{run_halted, run_spent, run_failed, run_start, run_onward, run_ended}
+use Rattle.std.proofs.Common.{◌≡◌, sym, ◌∙◌, subst, arith}
+use Rattle.machine.specs.State.{state}
+use Rattle.machine.specs.Step.{step_def, made}
+use Rattle.machine.proofs.Good.{GoodStep, step_good, step_made}
+use Rattle.machine.proofs.RunSteps.{run_onward}
 use Rattle.machine.proofs.make_steps.Goals as goal
 
 pub loop-m-preserved : goal.loop-m-preserved

@@ -1,9 +1,6 @@
-use Rattle.std.proofs.Common.{◌≡◌, ◌-◌, ◌≤◌, length, sym, refl, ap, ◌∙◌, subst, arith, rules}
+use Rattle.std.proofs.Common.{◌≡◌, ◌-◌, ◌≤◌, length}
 use Rattle.machine.specs.State.{state, Good}
-use Rattle.machine.specs.Step.{step_def, made, failed}
 use Rattle.machine.specs.Run.{work, more, run_from}
-use Rattle.machine.proofs.Good.{GoodStep, step_good, step_made, step_failed}
-use Rattle.machine.proofs.RunSteps.{run_halted, run_spent, run_failed, run_start, run_onward, run_ended}
 use Rattle.machine.proofs.make_steps.Given as goal
 
 -- The loop's invariant: the whole run is the work done so far and the run of what is left from the state reached.

@@ -6,42 +6,36 @@ use Rattle.machine_export.proofs.Facts.{fitting}
 use borrow.Author.Rules.{rules}
 use Rattle.machine_export.proofs.machine_run.Goals as goal
 
--- LOOK: fits2 read as fits
 pub bounds-request-0 : goal.bounds-request-0
 bounds-request-0 c =
     let fit : let x = c.args in Fitting (numbers x.machine.now x.clock.now x.request.now x.report.now) =
     fitting _ (sym c.fits.ensures ∙ c.if-fits.true) in
     omega (arith, (fit).request)
 
--- LOOK: fits2 read as fits
 pub bounds-request-1 : goal.bounds-request-1
 bounds-request-1 c =
     let fit : let x = c.args in Fitting (numbers x.machine.now x.clock.now x.request.now x.report.now) =
     fitting _ (sym c.fits.ensures ∙ c.if-fits.true) in
     omega (arith, (fit).request)
 
--- LOOK: fits2 read as fits
 pub machine_of-requires : goal.machine_of-requires
 machine_of-requires c =
     let fit : let x = c.args in Fitting (numbers x.machine.now x.clock.now x.request.now x.report.now) =
     fitting _ (sym c.fits.ensures ∙ c.if-fits.true) in
     let f = fit in (f.machine, f.words)
 
--- LOOK: fits2 read as fits
 pub clock_of-requires : goal.clock_of-requires
 clock_of-requires c =
     let fit : let x = c.args in Fitting (numbers x.machine.now x.clock.now x.request.now x.report.now) =
     fitting _ (sym c.fits.ensures ∙ c.if-fits.true) in
     (fit).clock
 
--- LOOK: fits2 read as fits
 pub put_machine-requires : goal.put_machine-requires
 put_machine-requires c =
     let fit : let x = c.args in Fitting (numbers x.machine.now x.clock.now x.request.now x.report.now) =
     fitting _ (sym c.fits.ensures ∙ c.if-fits.true) in
     (fit).machine
 
--- LOOK: fits2 read as fits
 pub put_report-requires : goal.put_report-requires
 put_report-requires c =
     let fit : let x = c.args in Fitting (numbers x.machine.now x.clock.now x.request.now x.report.now) =

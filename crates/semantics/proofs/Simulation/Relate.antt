@@ -4,7 +4,7 @@
 --                        │                                      │
 --             At κ p σ m │                                      │ At κ p' σ' m'
 --                        │                                      │
---        machine    p, memory m ── σ'.steps - σ.steps steps ─▶ p', memory m'
+--        machine    p, memory m ── σ'.steps - σ.steps steps ───▶ p', memory m'
 --
 -- `At κ p σ m` says: the machine that started as s₀ has made σ's number of steps and stands at p, with σ's registers and switches and the memory m, each of whose words serves what the map says that it is for: a fixed word is what it was, a cell
 -- has σ's value, a link holds an address of the memory, and the link of a procedure that a call is waiting on (κ) the one to return to; a word that is not used may hold anything, and so may the one that keeps A in a test. κ is the same at both ends of a part: a call adds to it, and its return takes that back.

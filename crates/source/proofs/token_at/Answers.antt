@@ -1,7 +1,6 @@
 use mathlib.Core.Path.{◌∙◌}
 use Rattle.source.specs.Tokens.{token_of, token_at}
 use Rattle.source.proofs.Choices.{after}
-use borrow.Author.Rules.{rules}
 use Rattle.source.proofs.token_at.Goals as goal
 
 pub returns : goal.returns

@@ -1,8 +1,6 @@
 use native.Mathlib.Omega.{arith}
-use lib.ListN.{length-set}
 use Rattle.symbols.specs.Table.{with_words, with_row}
-use Rattle.symbols.proofs.Table.{declared_room, declared_full}
-use borrow.Author.Rules.{rules}
+use Rattle.symbols.proofs.Table.{declared_room}
 use Rattle.symbols.proofs.declare.Goals as goal
 
 pub returns-then-count-table : goal.returns-then-count-table

@@ -1,12 +1,7 @@
-use Prim.Native.Nat.{◌≤◌, ◌-◌, ◌*◌}
-use mathlib.Core.Path.{◌≡◌, refl}
+use mathlib.Core.Path.{refl}
 use native.Mathlib.Omega.{arith}
 use borrow.Author.Rules.{rules}
-use lib.ListN.{length}
-use Rattle.machine.specs.State.{state}
-use Rattle.machine.specs.Run.{work, more}
-use Rattle.turns.specs.Turns.{turns_def}
-use Rattle.turns.proofs.Turns.{turn_reported, turns_start, turns_onward, turns_last, turns_done}
+use Rattle.turns.proofs.Turns.{turn_reported, turns_onward, turns_last, turns_done}
 use borrow.Enum.Refused.{opened}
 use Rattle.turns.proofs.run_turns.Goals as goal
 

@@ -4,7 +4,6 @@ use Rattle.symbols.specs.Trees.{tree_operand, tree_cell}
 use Rattle.parser.specs.Answers.{read_or}
 use Rattle.parser.proofs.Answers.{got_with_lem, got_read, got_failed, then_got, then_failed, failed_answer}
 use Rattle.cells.proofs.StartNames.{cell_is}
-use borrow.Author.Rules.{rules}
 use Rattle.cells.proofs.cell.cell_at.Goals as goal
 
 pub returns-in_default : goal.returns-in_default

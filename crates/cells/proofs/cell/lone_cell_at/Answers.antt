@@ -4,7 +4,6 @@ use Rattle.grammar.specs.Cells.{parse_lone_cell}
 use Rattle.grammar.specs.Parse.{fail_at}
 use Rattle.symbols.specs.Trees.{tree_operand, tree_cell}
 use Rattle.parser.proofs.Answers.{got_with_lem, got_read, then_got, pass_answer, read_answer, failed_answer}
-use borrow.Author.Rules.{rules}
 use Rattle.cells.proofs.cell.lone_cell_at.Goals as goal
 
 pub returns-in_default : goal.returns-in_default

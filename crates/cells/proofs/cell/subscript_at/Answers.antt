@@ -3,7 +3,6 @@ use Rattle.grammar.specs.Cells.{parse_subscript}
 use Rattle.symbols.specs.Trees.{tree_subscript}
 use Rattle.parser.specs.Answers.{read_or}
 use Rattle.parser.proofs.Answers.{got_with_lem, got_read, part_read, part_failed, then_got, then_failed, pass_answer, read_answer, failed_answer}
-use borrow.Author.Rules.{rules}
 use Rattle.cells.proofs.cell.subscript_at.Goals as goal
 
 pub returns-in_default : goal.returns-in_default

@@ -1,6 +1,5 @@
 use Rattle.cells.specs.Answers.{tree_term_start}
 use Rattle.parser.proofs.Answers.{got_with_lem, got_read, got_failed, then_got, then_failed, read_answer, failed_answer}
-use borrow.Author.Rules.{rules}
 use Rattle.cells.proofs.starts.cell_term_of.Goals as goal
 
 pub returns-in_default : goal.returns-in_default

@@ -2,9 +2,6 @@ use Rattle.prelude.specs.Choice.{find}
 use Rattle.parser.specs.Answers.{read_or}
 use Rattle.cells.specs.Answers.{tree_statement_start}
 use Rattle.cells.specs.Starts.{opening}
-use Rattle.parser.proofs.Answers.{refused_with}
-use Rattle.cells.proofs.StartLaws.{no_opening}
-use borrow.Author.Rules.{rules}
 use Rattle.cells.proofs.starts.opening_of.Goals as goal
 
 pub returns-in-34 : goal.returns-in-34

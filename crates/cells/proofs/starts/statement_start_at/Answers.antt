@@ -4,7 +4,6 @@ use Rattle.symbols.specs.Trees.{tree_symbol}
 use Rattle.parser.specs.Answers.{read_or}
 use Rattle.cells.specs.Answers.{tree_statement_start}
 use Rattle.cells.proofs.StartNames.{statement_is, no_start}
-use borrow.Author.Rules.{rules}
 use Rattle.cells.proofs.starts.statement_start_at.Goals as goal
 
 pub returns-in-Integer : goal.returns-in-Integer

@@ -4,7 +4,6 @@ use mathlib.Core.Path.{sym, ap, ◌∙◌}
 use Rattle.parser.specs.Answers.{part_of}
 use mathlib.Core.Logic.{inl, inr}
 use Rattle.cells.proofs.StartLaws.{deep_if, deep_unary, deep_term}
-use borrow.Author.Rules.{rules}
 use Rattle.cells.proofs.starts.too_deep_at.Goals.{in_default-via-then-kind-lt41, in_default-via-else-kind-lt41+else-kind-lt55}
 use Rattle.cells.proofs.starts.too_deep_at.Goals as goal
 

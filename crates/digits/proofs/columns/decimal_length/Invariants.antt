@@ -1,10 +1,7 @@
-use mathlib.Core.Path.{◌≡◌, refl}
-use native.Mathlib.Omega.{arith}
+use mathlib.Core.Path.{◌≡◌}
 use Prim.Native.Nat.{◌+◌, ◌-◌, ◌^◌, ◌<◌}
 use lib.ListN.{length}
-use borrow.Author.Rules.{rules}
 use Rattle.digits.specs.Digits.{decimal_by, decimal}
-use Rattle.digits.proofs.Widths.{one_digit, shorter}
 use Rattle.digits.proofs.columns.decimal_length.Given as goal
 
 -- The invariant: the digits counted, but for the first one, with those that `rest` has, are those of the number.

@@ -1,6 +1,5 @@
-use borrow.Author.Rules.{rules}
 use Rattle.digits.specs.Digits.{right_in}
-use Rattle.digits.proofs.Laws.{then, kept}
+use Rattle.digits.proofs.Laws.{then}
 use Rattle.digits.proofs.columns.put_right.Goals as goal
 
 pub returns : goal.returns

@@ -1,8 +1,5 @@
-use native.Mathlib.Omega.{arith}
 use lib.ListN.{replicate}
-use borrow.Author.Rules.{rules}
-use Rattle.digits.proofs.Laws.{Left, begins, goes_on, is_whole}
-use Rattle.digits.proofs.Widths.{next_space, no_space}
+use Rattle.digits.proofs.Laws.{Left}
 use Rattle.digits.proofs.columns.put_spaces.Given as goal
 
 -- The invariant: what is written, with the spaces that are left, gives the whole.

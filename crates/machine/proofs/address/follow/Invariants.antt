@@ -1,6 +1,5 @@
-use Rattle.std.proofs.Common.{◌≡◌, ◌<◌, ◌≤◌, sym, ◌∙◌, arith, rules}
+use Rattle.std.proofs.Common.{◌≡◌, ◌<◌, ◌≤◌}
 use Rattle.machine.specs.Address.{follow_of}
-use Rattle.machine.proofs.Chains.{follow_end, follow_long, follow_more}
 use Rattle.machine.proofs.address.follow.Given as goal
 
 -- The loop's invariant: the chain from the address reached, with the words that are left, is the whole chain.

@@ -1,13 +1,11 @@
-use Rattle.std.proofs.Common.{◌≡◌, ℕ, ◌<◌, get_or, sym, refl, ap, ◌∙◌, subst, arith, rules}
+use Rattle.std.proofs.Common.{◌≡◌, ℕ, get_or, sym, refl, ap, ◌∙◌}
 use Rattle.instruction.specs.Decode.{decode_def}
-use Rattle.instruction.proofs.Proper.{Proper, decode_proper}
 use Rattle.instruction.proofs.Rows.{decode_with}
 use Rattle.machine.specs.declared.address.Address.{Address}
 use Rattle.machine.specs.declared.step.Stepped.TheVariants.{Made}
 use Rattle.machine.specs.State.{state}
 use Rattle.machine.specs.Address.{indexed_of, follow_of}
 use Rattle.machine.specs.Step.{memory_step, step_def}
-use Rattle.machine.proofs.Chains.{Below, follow_below}
 use Rattle.machine.proofs.Good.{step_of}
 use Rattle.machine.proofs.step.step.Goals as goal
 

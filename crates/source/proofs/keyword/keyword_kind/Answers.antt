@@ -1,9 +1,7 @@
-use mathlib.Core.Path.{◌≡◌, sym, ap, ◌∙◌}
-use Prim.Native.Nat.{◌-◌, ◌≤◌}
+use mathlib.Core.Path.{sym, ap, ◌∙◌}
 use borrow.Author.Rules.{rules}
 use Rattle.source.specs.Bytes.{same_bytes}
-use Rattle.source.specs.Keywords.{keyword_kind}
-use Rattle.source.proofs.KeywordLaws.{in_order, in_letters, letters_of, kind_from, from_first, found, next, none}
+use Rattle.source.proofs.KeywordLaws.{in_order, in_letters, letters_of, found, next}
 use Rattle.source.proofs.keyword.keyword_kind.Goals as goal
 
 pub same_part-requires : goal.same_part-requires

@@ -1,9 +1,7 @@
-use mathlib.Core.Path.{◌≡◌, sym, ap, ◌∙◌}
+use mathlib.Core.Path.{◌≡◌}
 use Prim.Native.Nat.{◌-◌, ◌≤◌}
-use borrow.Author.Rules.{rules}
-use Rattle.source.specs.Bytes.{same_bytes}
 use Rattle.source.specs.Keywords.{keyword_kind}
-use Rattle.source.proofs.KeywordLaws.{in_order, in_letters, letters_of, kind_from, from_first, found, next, none}
+use Rattle.source.proofs.KeywordLaws.{kind_from}
 use Rattle.source.proofs.keyword.keyword_kind.Given as goal
 
 -- By the rules of the table. The invariant: the keywords from `k` on decide.

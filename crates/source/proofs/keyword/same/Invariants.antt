@@ -1,9 +1,7 @@
-use mathlib.Core.Path.{◌≡◌, refl, sym, ◌∙◌}
+use mathlib.Core.Path.{◌≡◌}
 use Prim.Native.Nat.{◌-◌, ◌≤◌}
-use borrow.Author.Rules.{rules}
 use lib.ListN.{length, drop}
 use Rattle.source.specs.Bytes.{same_bytes}
-use Rattle.source.proofs.Same.{lengths, on, differ, ended}
 use Rattle.source.proofs.keyword.same.Given as goal
 
 -- The invariant: what is left from `i` on decides.

@@ -1,10 +1,7 @@
-use mathlib.Core.Path.{◌≡◌, refl, ◌∙◌}
+use mathlib.Core.Path.{◌≡◌}
 use Prim.Native.Nat.{◌-◌, ◌≤◌, min}
-use native.Mathlib.Omega.{arith}
-use borrow.Author.Rules.{rules}
 use lib.Seq.{slice}
 use Rattle.source.specs.Tokens.{number}
-use Rattle.source.proofs.Numbers.{next, done}
 use Rattle.source.proofs.number.number_of.Given as goal
 
 -- The invariant: the number goes on from `n` over the digits that are left.

@@ -1,9 +1,6 @@
-use mathlib.Core.Path.{◌∙◌}
 use Rattle.prelude.specs.Choice.{find}
 use Rattle.source.specs.Bytes.{starts_with}
 use Rattle.source.specs.Tokens.{sign_token}
-use Rattle.source.proofs.Signs.{none}
-use borrow.Author.Rules.{rules}
 use Rattle.source.proofs.sign.sign_of.Goals as goal
 
 pub returns-in-61 : goal.returns-in-61

@@ -1,12 +1,8 @@
-use mathlib.Core.Path.{◌≡◌, refl, sym, ◌∙◌}
+use mathlib.Core.Path.{◌≡◌}
 use Prim.Native.Nat.{◌+◌, ◌-◌}
-use native.Mathlib.Omega.{arith}
-use borrow.Author.Rules.{rules}
 use lib.ListN.{length, drop}
 use Rattle.source.specs.Bytes.{span}
 use Rattle.source.specs.Classes.{passes}
-use borrow.Author.Tests.{not-true, not-false}
-use Rattle.source.proofs.SpanLaws.{on, stops, ends}
 use Rattle.source.proofs.span.span_end.Given as goal
 
 -- The invariant: the span from `at` ends where the span from `i` does.

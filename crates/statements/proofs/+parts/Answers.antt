@@ -1,0 +1,173 @@
+use mathlib.Core.Path.{◌≡◌, refl, sym, ◌∙◌}
+use native.Mathlib.Omega.{arith}
+use borrow.Author.Rules.{rules}
+use lib.ListN.{length}
+use Rattle.expressions.proofs.Leaves.{hole_later}
+use Rattle.tree.specs.Tree.{Target}
+use Rattle.layout.specs.Words.{target_cell, stmt_words}
+use Rattle.grammar.specs.Statements.{parse_when, parse_while, stmt_from}
+use Rattle.symbols.specs.Trees.{tree_operand, tree_cell}
+use Rattle.cells.specs.Answers.{tree_statement_start}
+use Rattle.parser.specs.Reads.Reads.{read, fails}
+use Rattle.parser.proofs.Answers.{then_got, got_read, got_failed, got_with_lem}
+use Rattle.parser.proofs.ReadLaws.{came, pass, reads_on, list_failed, list_zero, list_last, sequel_next}
+use Rattle.layout.specs.Emission.{emit_all}
+use Rattle.emitter.specs.Emitted.{emitted_by, bases_of}
+use Rattle.emitter.proofs.Lays.{kept_here, kept_then, nothing}
+use Rattle.statements.specs.Forms.{stmt_at, stmts_at}
+use Rattle.statements.proofs.Forms.{follow}
+use Rattle.statements.proofs.AssignmentLaws.{stored_as, to_a_lem, to_x, called}
+use Rattle.statements.proofs.Branches.{guarded_as, if_as, after_test, guards, when_lays, while_lays, first_kept, if_lays}
+use Rattle.statements.proofs.CountingLaws.{for_as, for_lays}
+use Rattle.statements.proofs.Lists.{compounded, words_of, Listed, listed_first, listed_next}
+use Rattle.statements.proofs.Starts.{stmt_empty, stmt_unknown, stmt_deep, stmt_on}
+use Prim.Native.Nat.{ℕ, ◌+◌, ◌*◌, ◌<◌}
+use Rattle.statements.proofs.+parts.Goals as goal
+
+pub compound-returns : goal.compound-returns
+compound-returns t c = compounded _ _ _ _ (follow _ _ c.listed-all.ensures c.followed_by-part.ensures (λ _ l. l.kept) (λ w. w))
+
+pub for_statement-returns-in_default : goal.for_statement-returns-in_default
+for_statement-returns-in_default t c =
+    pass _ (follow _ _ c.for_head-head.ensures c.followed_by-part.ensures (λ h l. l.0.kept) (λ w. w)) c.in_default.is (for_as _ _ _ _ _) (λ w. w)
+
+pub for_statement-returns-in_default-part : goal.for_statement-returns-in_default-part
+for_statement-returns-in_default-part t c =
+    let x = came (follow _ _ c.for_head-head.ensures c.followed_by-part.ensures (λ h l. l.0.kept) (λ w. w)) c.in-Read.is in
+    pass _ c.statement-body.ensures c.in_default-part.is (for_as _ _ _ _ _ ∙ then_got _ x.is) (kept_then x.holds.0.kept)
+
+pub for_statement-returns : goal.for_statement-returns
+unfolding tree_operand emit_all
+for_statement-returns t c =
+    let x = came (follow _ _ c.for_head-head.ensures c.followed_by-part.ensures (λ h l. l.0.kept) (λ w. w)) c.in-Read.is in
+    let y = came c.statement-body.ensures c.in-Read-part.is in
+    read (for_as _ _ _ _ _ ∙ then_got _ x.is ∙ then_got _ y.is) c.in-Read-part.is
+    (for_lays x.tree y.tree x.holds.0 x.holds.1 y.holds c.emit_memory-after_count.ensures.emitted c.emit_jump-after_jump.ensures.emitted)
+
+pub form-returns-in-Integer : goal.form-returns-in-Integer
+unfolding stmt_from tree_statement_start tree_cell tree_operand target_cell
+form-returns-in-Integer t c = rw c.in-Integer.is (stored_as _ _ _ _ (Target.integer _) (rw c.plain.ensures at c.store.ensures))
+
+pub form-returns-in-Element : goal.form-returns-in-Element
+unfolding stmt_from tree_statement_start
+form-returns-in-Element t c = rw c.in-Element.is c.element.ensures
+
+pub form-returns-in-Accumulator : goal.form-returns-in-Accumulator
+unfolding stmt_from tree_statement_start
+form-returns-in-Accumulator t c = rw c.in-Accumulator.is (to_a_lem _ _ _ _ c.assigned.ensures)
+
+pub form-returns-in-Hash : goal.form-returns-in-Hash
+unfolding stmt_from tree_statement_start
+form-returns-in-Hash t c = rw c.in-Hash.is (to_x _ _ _ c.set_x.ensures)
+
+pub form-returns-in-If : goal.form-returns-in-If
+unfolding stmt_from tree_statement_start
+form-returns-in-If t c = rw c.in-If.is c.if_statement.ensures
+
+pub form-returns-in-When : goal.form-returns-in-When
+unfolding stmt_from tree_statement_start
+form-returns-in-When t c = rw c.in-When.is c.when_statement.ensures
+
+pub form-returns-in-While : goal.form-returns-in-While
+unfolding stmt_from tree_statement_start
+form-returns-in-While t c = rw c.in-While.is c.while_statement.ensures
+
+pub form-returns-in-For : goal.form-returns-in-For
+unfolding stmt_from tree_statement_start
+form-returns-in-For t c = rw c.in-For.is c.for_statement.ensures
+
+pub form-returns-in-Compound : goal.form-returns-in-Compound
+unfolding stmt_from tree_statement_start
+form-returns-in-Compound t c = rw c.in-Compound.is c.compound.ensures
+
+pub form-returns-in-Call : goal.form-returns-in-Call
+unfolding stmt_from tree_statement_start
+form-returns-in-Call t c = rw c.in-Call.is (called _ _ _ _ _ c.call.ensures)
+
+pub guarded-returns-in_default : goal.guarded-returns-in_default
+guarded-returns-in_default t c =
+    pass _ (after_test _ _ c.condition-test.ensures c.followed_by-part.ensures) c.in_default.is (guarded_as _ _ _ _ _ _) (λ w. (w, refl))
+
+pub guarded-returns-in_default-part : goal.guarded-returns-in_default-part
+guarded-returns-in_default-part t c =
+    let x = came (after_test _ _ c.condition-test.ensures c.followed_by-part.ensures) c.in-Read.is in
+    pass _ c.statement-body.ensures c.in_default-part.is (guarded_as _ _ _ _ _ _ ∙ then_got _ x.is) (λ w. (kept_then x.holds.lays.kept w, refl))
+
+pub guarded-returns : goal.guarded-returns
+guarded-returns t c =
+    let x = came (after_test _ _ c.condition-test.ensures c.followed_by-part.ensures) c.in-Read.is in
+    let y = came c.statement-body.ensures c.in-Read-part.is in
+    read (guarded_as _ _ _ _ _ _ ∙ then_got _ x.is ∙ then_got _ y.is) c.in-Read-part.is (guards x.tree y.tree x.holds y.holds)
+
+pub if_statement-returns-in_default : goal.if_statement-returns-in_default
+if_statement-returns-in_default t c =
+    pass _ (after_test _ _ c.guarded-first.ensures c.followed_by-part.ensures) c.in_default.is (if_as _ _ _ _ _) (λ w. w)
+
+pub if_statement-returns-in_default-part : goal.if_statement-returns-in_default-part
+if_statement-returns-in_default-part t c =
+    let x = came (after_test _ _ c.guarded-first.ensures c.followed_by-part.ensures) c.in-Read.is in
+    pass _ c.statement-second.ensures c.in_default-part.is (if_as _ _ _ _ _ ∙ then_got _ x.is) (kept_then (first_kept x.tree x.holds (hole_later c.emit_hole-end.ensures) c.fill_jump.ensures))
+
+pub if_statement-returns : goal.if_statement-returns
+if_statement-returns t c =
+    let x = came (after_test _ _ c.guarded-first.ensures c.followed_by-part.ensures) c.in-Read.is in
+    let y = came c.statement-second.ensures c.in-Read-part.is in
+    read (if_as _ _ _ _ _ ∙ then_got _ x.is ∙ then_got _ y.is) c.in-Read-part.is
+    (if_lays x.tree x.holds (hole_later c.emit_hole-end.ensures) c.fill_jump.ensures y.tree y.holds c.fill_jump-2.ensures)
+
+pub listed-returns-in_default : goal.listed-returns-in_default
+listed-returns-in_default t c = let l = c.loop-next.invariant.1 in list_failed l (listed_next _ _ _ l.holds c.statement-one.ensures) c.in_default.is
+
+pub listed-returns-then-turns-eq0 : goal.listed-returns-then-turns-eq0
+listed-returns-then-turns-eq0 t c =
+    let l = c.loop-next.invariant.1 in
+    list_zero l (listed_next _ _ _ l.holds c.statement-one.ensures) c.in-Read.is c.if-turns-eq0.true
+
+pub listed-returns-then-t-ne-SEMICOLON : goal.listed-returns-then-t-ne-SEMICOLON
+listed-returns-then-t-ne-SEMICOLON t c =
+    let l = c.loop-next.invariant.1 in
+    list_last l (listed_next _ _ _ l.holds c.statement-one.ensures) c.in-Read.is c.token_at-t.ensures c.if-t-ne-SEMICOLON.true
+
+pub listed-loop-next-preserved : goal.listed-loop-next-preserved
+unfolding words_of
+listed-loop-next-preserved t c =
+    let l = c.loop-next.invariant.1 in
+    (omega (arith, c.loop-next.invariant.0, c.statement-one.auto), sequel_next l (listed_next _ _ _ l.holds c.statement-one.ensures) c.in-Read.is c.token_at-t.ensures (λ _ h. h) c.if-turns-eq0.false c.if-t-ne-SEMICOLON.false)
+
+pub statement-returns-then-ends_statement : goal.statement-returns-then-ends_statement
+unfolding stmt_words
+statement-returns-then-ends_statement t c = read (stmt_empty _ _ _ _ c.token_at-t.ensures _ (sym c.ends_statement.ensures ∙ c.if-ends_statement.true)) refl nothing
+
+pub statement-returns-in_default : goal.statement-returns-in_default
+statement-returns-in_default t c =
+    fails (stmt_unknown _ _ _ _ c.token_at-t.ensures (sym c.ends_statement.ensures ∙ c.if-ends_statement.false) _ (got_failed _ (got_with_lem _ c.statement_start_at-found.ensures) c.in_default.is)) c.in_default.is kept_here
+
+pub statement-returns-then-left-eq0 : goal.statement-returns-then-left-eq0
+statement-returns-then-left-eq0 t c =
+    fails (stmt_deep _ _ _ _ c.token_at-t.ensures (sym c.ends_statement.ensures ∙ c.if-ends_statement.false) (got_read (got_with_lem _ c.statement_start_at-found.ensures) c.in-Read.is) _ c.if-left-eq0.true) c.fail_at-part.ensures kept_here
+
+pub statement-returns : goal.statement-returns
+statement-returns t c =
+    reads_on (stmt_on _ _ _ _ c.token_at-t.ensures (sym c.ends_statement.ensures ∙ c.if-ends_statement.false) (got_read (got_with_lem _ c.statement_start_at-found.ensures) c.in-Read.is) _ c.if-left-eq0.false) c.form.ensures
+
+pub when_statement-returns-in_default : goal.when_statement-returns-in_default
+unfolding parse_when
+when_statement-returns-in_default t c =
+    pass _ c.guarded-all.ensures c.in_default.is refl (λ w. w.0)
+
+pub when_statement-returns : goal.when_statement-returns
+unfolding parse_when
+when_statement-returns t c =
+    let x = came c.guarded-all.ensures c.in-Read.is in
+    read (then_got _ x.is) c.in-Read.is (when_lays x.tree x.holds c.fill_jump.ensures)
+
+pub while_statement-returns-in_default : goal.while_statement-returns-in_default
+unfolding parse_while
+while_statement-returns-in_default t c =
+    pass _ c.guarded-all.ensures c.in_default.is refl (λ w. w.0)
+
+pub while_statement-returns : goal.while_statement-returns
+unfolding parse_while
+while_statement-returns t c =
+    let x = came c.guarded-all.ensures c.in-Read.is in
+    read (then_got _ x.is) c.in-Read.is (while_lays x.tree x.holds c.emit_jump-after_jump.ensures.emitted c.fill_jump.ensures)
