@@ -7,9 +7,7 @@ use Rattle.effect.specs.declared.Switches.{Switches}
 use Rattle.source.specs.Bytes.{is_digit}
 use Rattle.source.specs.Tokens.{number}
 use Rattle.arguments.specs.declared.TurnsArgument.{TurnsArgument}
-use Rattle.arguments.specs.declared.TurnsArgument.TheVariants as TurnsArgument
 use Rattle.arguments.specs.declared.SwitchesArgument.{SwitchesArgument}
-use Rattle.arguments.specs.declared.SwitchesArgument.TheVariants as SwitchesArgument
 
 -- a number that counts turns, if what it was read from was digits alone: from 1 to 1,000,000
 abbrev pub count_of : Bool → ℕ → Option ℕ

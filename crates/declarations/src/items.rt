@@ -20,6 +20,7 @@ use parser::{Part, expect};
 use source::kind::EQUAL;
 use symbols::{Packed, Symbol, id_of};
 
+#[tactic(auto, unfolding(grammar::specs::Declarations::item_limit, crate::specs::Scopes::tree_keyword))]
 fn item_limit(keyword: ItemKeyword, scope: Scope) -> u16
     ensures { result ≡ item_limit (tree_keyword keyword) (scope_of scope []) }
 {
@@ -109,6 +110,7 @@ fn item_at(
 }
 
 // What an item's name will stand for.
+#[tactic(auto, unfolding(tree::specs::Symbols::item_symbol, symbols::specs::Trees::tree_symbol, crate::specs::Scopes::tree_item))]
 fn symbol_of(scope: Scope, item: Item) -> Symbol
     ensures { tree_symbol result ≡ item_symbol (scope_of scope []) (tree_item item) }
 {
@@ -121,6 +123,7 @@ fn symbol_of(scope: Scope, item: Item) -> Symbol
 }
 
 // The item's word, if it takes one; and how many it takes (A3, W16).
+#[tactic(auto, unfolding(layout::specs::Emission::stored, layout::specs::Emission::item_values, crate::specs::Scopes::tree_item, tree::specs::Symbols::words_taken, tree::specs::Symbols::item_value))]
 fn emit_item(image: &mut [u16], at: usize, item: Item) -> u16
     ensures { (image.new ≡ stored image.old at (item_values (tree_item item)))
         × (result ≡ length (item_values (tree_item item))) × (result ≤ 1) }

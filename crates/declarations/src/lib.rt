@@ -137,6 +137,7 @@ pub struct AllocationAnswer {
 }
 
 // One code end more, while there is room.
+#[tactic(auto, unfolding(crate::specs::Allocations::with_end))]
 pub fn with_end(sectors: SectorEnds, end: u16) -> SectorEnds
     ensures { result ≡ with_end sectors end }
 {

@@ -17,7 +17,7 @@ use Rattle.page.specs.Page.{page_of, first_failure, failure_of, answer_of, outpu
 use Rattle.page.specs.Readings.{length_of, failure_at, fitted_of, Sound}
 use Rattle.page.specs.declared.Answer.{Answer}
 use Rattle.page.proofs.NameLaws.{Splits, splits}
-use Rattle.page.proofs.FarmLaws.{sound, litres_failure, name_failure_lem, no_failure_lem, Named, named}
+use Rattle.page.proofs.FarmLaws.{sound, litres_failure, name_failure_lem, no_failure_lem, Named}
 use Rattle.page.proofs.LineLaws.{lines_length}
 
 -- ---- A page of sound farms

@@ -1,5 +1,5 @@
 -- The acts of the semantics, in the order of the words, each one step with the effect of the machine's own instruction (M4, M5).
-use Rattle.std.specs.Prelude.{ℕ, zero, suc, ◌+◌, ◌-◌, ◌%◌, Bool, true, false, cond, not, List, [], ◌∷◌, eqb, ltb}
+use Rattle.std.specs.Prelude.{ℕ, zero, suc, ◌+◌, ◌%◌, Bool, true, false, cond, not, List, [], ◌∷◌, eqb, ltb}
 use Rattle.word.specs.Arithmetic.{bit}
 use Rattle.effect.specs.declared.Registers.{Registers}
 use Rattle.effect.specs.Effects.{operate_of, unary_of, shifted_of}

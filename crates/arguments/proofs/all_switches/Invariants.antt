@@ -1,11 +1,8 @@
 use Prim.Native.Nat.{◌-◌}
-use mathlib.Core.Path.{◌≡◌, refl, sym, ◌∙◌}
-use borrow.Author.Rules.{rules}
-use borrow.Author.Tests.{not-true, not-false}
+use mathlib.Core.Path.{◌≡◌}
 use lib.ListN.{drop}
 use Rattle.prelude.specs.Text.{all}
 use Rattle.arguments.specs.Arguments.{is_switch}
-use Rattle.arguments.proofs.Bytes.{all_next, all_not, all_done}
 use Rattle.arguments.proofs.all_switches.Given as goal
 
 -- The invariant: whether all bytes are switches is whether those that are left are.

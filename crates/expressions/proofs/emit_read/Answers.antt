@@ -2,7 +2,6 @@ use mathlib.Core.Path.{refl}
 use Rattle.emitter.proofs.Lays.{kept_here, words}
 use Rattle.parser.specs.Reads.Reads.{read, fails}
 use Rattle.parser.proofs.Answers.{got_read, got_failed}
-use borrow.Author.Rules.{rules}
 use Rattle.expressions.proofs.emit_read.Goals as goal
 
 pub returns-in_default : goal.returns-in_default

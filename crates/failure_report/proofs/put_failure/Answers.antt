@@ -1,6 +1,5 @@
 use Rattle.digits.proofs.Laws.{then}
 use Rattle.failure_report.specs.Failure.{failure_text}
-use borrow.Author.Rules.{rules}
 use Rattle.failure_report.proofs.put_failure.Goals as goal
 
 pub returns : goal.returns

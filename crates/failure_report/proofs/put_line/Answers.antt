@@ -3,7 +3,6 @@ use mathlib.Core.Path.{ap}
 use Rattle.digits.proofs.Laws.{then, same_text}
 use Rattle.failure_report.specs.Place.{visible}
 use Rattle.failure_report.proofs.Laws.{line_bytes}
-use borrow.Author.Rules.{rules}
 use Rattle.failure_report.proofs.put_line.Goals as goal
 
 pub returns : goal.returns

@@ -1,5 +1,4 @@
-use borrow.Author.Rules.{rules}
-use Rattle.digits.proofs.Laws.{then, kept}
+use Rattle.digits.proofs.Laws.{then}
 use Rattle.failure_report.specs.Failure.{place_text}
 use Rattle.failure_report.proofs.put_place.Goals as goal
 

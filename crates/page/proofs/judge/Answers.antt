@@ -1,13 +1,9 @@
-use mathlib.Core.Path.{sym, ap, ◌∙◌}
-use mathlib.Core.Logic.{⊎_elim}
-use native.Mathlib.Omega.{arith}
-use Prim.Native.Nat.{◌-◌, ◌<◌}
+use mathlib.Core.Path.{sym, ◌∙◌}
+use Prim.Native.Nat.{◌<◌}
 use lib.ListN.{length, get_or}
-use borrow.Author.Tests.{ltb-true, ltb-false}
-use borrow.Author.Rules.{rules}
-use Rattle.page.specs.declared.Answer.{Answer}
+use borrow.Author.Tests.{ltb-true}
 use Rattle.page.proofs.FarmLaws.{Named, name_at_lem}
-use Rattle.page.proofs.Judging.{Judging, judging_starts, farm_failed, Passed, passed, judging_on, names_left, litres_left, none_left}
+use Rattle.page.proofs.Judging.{Passed, passed, judging_on}
 use Rattle.page.proofs.judge.Goals as goal
 
 pub loop-from-preserved : goal.loop-from-preserved

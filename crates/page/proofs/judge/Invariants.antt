@@ -1,13 +1,6 @@
-use mathlib.Core.Path.{sym, ap, ◌∙◌}
-use mathlib.Core.Logic.{⊎_elim}
-use native.Mathlib.Omega.{arith}
-use Prim.Native.Nat.{◌-◌, ◌<◌}
-use lib.ListN.{length, get_or}
-use borrow.Author.Tests.{ltb-true, ltb-false}
-use borrow.Author.Rules.{rules}
-use Rattle.page.specs.declared.Answer.{Answer}
-use Rattle.page.proofs.FarmLaws.{Named, name_at_lem}
-use Rattle.page.proofs.Judging.{Judging, judging_starts, farm_failed, Passed, passed, judging_on, names_left, litres_left, none_left}
+use Prim.Native.Nat.{◌-◌}
+use lib.ListN.{length}
+use Rattle.page.proofs.Judging.{Judging}
 use Rattle.page.proofs.judge.Given as goal
 
 -- The invariant: what is wrong, and how many names there are, is told by what stands behind `from` and `farms`.

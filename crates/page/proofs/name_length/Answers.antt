@@ -1,12 +1,7 @@
-use mathlib.Core.Path.{◌≡◌, sym, ◌∙◌}
+use mathlib.Core.Path.{◌≡◌}
 use native.Mathlib.Omega.{arith}
-use Prim.Native.Nat.{◌+◌, ◌-◌, ◌≤◌}
-use lib.ListN.{length, drop}
-use borrow.Author.Tests.{le-leb, lt-leb, not-true, not-false}
-use borrow.Author.Rules.{rules}
-use Rattle.page.specs.Names.{names_of}
-use Rattle.page.specs.Readings.{length_of}
-use Rattle.page.proofs.NameLaws.{scan, scan_first, scan_newline, scan_stopped, scan_passed, scan_ended}
+use Prim.Native.Nat.{◌-◌}
+use Rattle.page.proofs.NameLaws.{scan_first}
 use Rattle.page.proofs.name_length.Goals as goal
 
 pub loop-end-init : goal.loop-end-init

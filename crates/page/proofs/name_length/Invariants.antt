@@ -1,12 +1,9 @@
-use mathlib.Core.Path.{◌≡◌, sym, ◌∙◌}
-use native.Mathlib.Omega.{arith}
-use Prim.Native.Nat.{◌+◌, ◌-◌, ◌≤◌}
+use mathlib.Core.Path.{◌≡◌}
+use Prim.Native.Nat.{◌-◌, ◌≤◌}
 use lib.ListN.{length, drop}
-use borrow.Author.Tests.{le-leb, lt-leb, not-true, not-false}
-use borrow.Author.Rules.{rules}
 use Rattle.page.specs.Names.{names_of}
 use Rattle.page.specs.Readings.{length_of}
-use Rattle.page.proofs.NameLaws.{scan, scan_first, scan_newline, scan_stopped, scan_passed, scan_ended}
+use Rattle.page.proofs.NameLaws.{scan}
 use Rattle.page.proofs.name_length.Given as goal
 
 -- The invariant: the name is as long as it comes out when it is read on from `end`.

@@ -1,5 +1,4 @@
-use borrow.Author.Rules.{rules}
-use Rattle.digits.proofs.Laws.{then, kept}
+use Rattle.digits.proofs.Laws.{then}
 use Rattle.page.specs.Page.{farm_line}
 use Rattle.page.proofs.put_line.Goals as goal
 

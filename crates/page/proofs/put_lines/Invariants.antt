@@ -1,14 +1,9 @@
-use mathlib.Core.Path.{◌≡◌}
-use native.Mathlib.Omega.{arith}
-use Prim.Native.Nat.{◌+◌, ◌-◌, ◌*◌, ◌≤◌}
-use lib.ListN.{length, drop, length-drop}
-use native.Mathlib.Nat.{add_assoc}
-use borrow.Author.Rules.{rules}
-use Rattle.digits.proofs.Laws.{Left, begins, goes_on, is_whole}
+use Prim.Native.Nat.{◌-◌, ◌*◌, ◌≤◌}
+use lib.ListN.{length, drop}
+use Rattle.digits.proofs.Laws.{Left}
 use Rattle.page.specs.Names.{names_of}
 use Rattle.page.specs.Page.{lines_from, page_of}
 use Rattle.page.specs.Readings.{Sound}
-use Rattle.page.proofs.FarmLaws.{Next, next, no_lines}
 use Rattle.page.proofs.put_lines.Given as goal
 
 -- The invariant: what is written, with the lines of the farms from `from` and `i` on, gives the whole page.

@@ -9,7 +9,6 @@ use Rattle.instruction.specs.Slot.{SKP, NOP, SPL, CRA, TCA}
 use Rattle.machine.specs.Step.{memory_def, generic_def}
 use Rattle.tree.specs.Tree.{Unary, Operator, Test, Bare}
 use Rattle.layout.specs.Words.{Plain, unary_plain, Operated, operator_form, test_slot, bare_slot}
-use Rattle.semantics.specs.Acts.{generic}
 use Rattle.semantics.proofs.Simulation.Instructions.{Reads, ActsOn, Skips}
 
 pub load_reads : Reads LDA

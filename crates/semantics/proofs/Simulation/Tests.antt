@@ -10,17 +10,16 @@ use lib.ListN.{set, get_or}
 use lib.Seq.{get_or-set_same}
 use borrow.Author.Tests.{lt-ltb, le-ltb, eq-eqb, ne_eqb, eqb-true, eqb-false, ltb-true, ltb-false, leb-false}
 use Rattle.word.specs.Arithmetic.{bit, biased, compare_of}
-use Rattle.effect.specs.declared.Registers.{Registers}
 use Rattle.effect.specs.Effects.{operate_of}
 use Rattle.effect.specs.Skips.{skips_of}
-use Rattle.instruction.specs.Opcode.{LDA, CAS}
+use Rattle.instruction.specs.Opcode.{CAS}
 use Rattle.machine.specs.State as machine
 use Rattle.tree.specs.Tree.{Array, Operand, is_inside, lowest}
 use Rattle.layout.specs.Map.{Role}
 use Rattle.layout.specs.Addresses.{saved_word}
 use Rattle.semantics.specs.Trace.{State}
 use Rattle.semantics.specs.Acts.{with_registers, tick, ticks, x_cell, index, place_of, value_of, pass_steps, stop_steps, tested}
-use Rattle.memory_map.specs.Laid.{Map, Sound, Refers, Direct, named, TestWords}
+use Rattle.memory_map.specs.Laid.{Map, Sound, Refers, Direct, TestWords}
 use Rattle.memory_map.proofs.FinishedMap.{inside_bounds}
 use Rattle.semantics.proofs.Simulation.Relate.{Links, At, Stopping}
 use Rattle.semantics.proofs.Simulation.Instructions.{next, over, do_test, do_read, do_save, do_restore, do_compare, located_direct}

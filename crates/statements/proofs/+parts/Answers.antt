@@ -1,7 +1,5 @@
-use mathlib.Core.Path.{◌≡◌, refl, sym, ◌∙◌}
+use mathlib.Core.Path.{refl, sym, ◌∙◌}
 use native.Mathlib.Omega.{arith}
-use borrow.Author.Rules.{rules}
-use lib.ListN.{length}
 use Rattle.expressions.proofs.Leaves.{hole_later}
 use Rattle.tree.specs.Tree.{Target}
 use Rattle.layout.specs.Words.{target_cell, stmt_words}
@@ -12,16 +10,13 @@ use Rattle.parser.specs.Reads.Reads.{read, fails}
 use Rattle.parser.proofs.Answers.{then_got, got_read, got_failed, got_with_lem}
 use Rattle.parser.proofs.ReadLaws.{came, pass, reads_on, list_failed, list_zero, list_last, sequel_next}
 use Rattle.layout.specs.Emission.{emit_all}
-use Rattle.emitter.specs.Emitted.{emitted_by, bases_of}
 use Rattle.emitter.proofs.Lays.{kept_here, kept_then, nothing}
-use Rattle.statements.specs.Forms.{stmt_at, stmts_at}
 use Rattle.statements.proofs.Forms.{follow}
 use Rattle.statements.proofs.AssignmentLaws.{stored_as, to_a_lem, to_x, called}
 use Rattle.statements.proofs.Branches.{guarded_as, if_as, after_test, guards, when_lays, while_lays, first_kept, if_lays}
 use Rattle.statements.proofs.CountingLaws.{for_as, for_lays}
-use Rattle.statements.proofs.Lists.{compounded, words_of, Listed, listed_first, listed_next}
+use Rattle.statements.proofs.Lists.{compounded, words_of, listed_next}
 use Rattle.statements.proofs.Starts.{stmt_empty, stmt_unknown, stmt_deep, stmt_on}
-use Prim.Native.Nat.{ℕ, ◌+◌, ◌*◌, ◌<◌}
 use Rattle.statements.proofs.+parts.Goals as goal
 
 pub compound-returns : goal.compound-returns

@@ -1,6 +1,5 @@
 use mathlib.Core.Path.{◌∙◌}
 use Rattle.expressions.proofs.ComparingLaws.{none_left, relation_compared, test_read, no_comparison}
-use borrow.Author.Rules.{rules}
 use Rattle.expressions.proofs.comparing.comparison.Goals as goal
 
 pub returns-then-relation-gt0 : goal.returns-then-relation-gt0

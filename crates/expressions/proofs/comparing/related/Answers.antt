@@ -2,7 +2,6 @@ use mathlib.Core.Path.{sym}
 use Rattle.parser.proofs.Answers.{got_with_lem}
 use Rattle.parser.proofs.ReadLaws.{reads_on}
 use Rattle.expressions.proofs.ComparingLaws.{related_failed, related_read}
-use borrow.Author.Rules.{rules}
 use Rattle.expressions.proofs.comparing.related.Goals as goal
 
 pub returns-in_default : goal.returns-in_default

@@ -2,7 +2,6 @@ use Rattle.word.specs.Shift.{LLS}
 use Rattle.instruction.specs.Slot.{IAB}
 use Rattle.emitter.proofs.EmittedWords.{emits_none, emits_shift, emits_generic}
 use Rattle.expressions.proofs.OperatorLaws.{after_product, after_remainder, none_after}
-use borrow.Author.Rules.{rules}
 use Rattle.expressions.proofs.operators.emit_after.Goals as goal
 
 pub returns-then-kind-eq-STAR : goal.returns-then-kind-eq-STAR

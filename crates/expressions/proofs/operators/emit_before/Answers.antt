@@ -3,7 +3,6 @@ use borrow.Author.Tests.{eqb-false}
 use Rattle.word.specs.Shift.{LRS}
 use Rattle.emitter.proofs.EmittedWords.{emits_none, emits_shift}
 use Rattle.expressions.proofs.OperatorLaws.{before_division, none_before}
-use borrow.Author.Rules.{rules}
 use Rattle.expressions.proofs.operators.emit_before.Goals.{then-kind-eq-SLASH-via-then-kind-eq-SLASH, then-kind-eq-SLASH-via-else-kind-eq-SLASH+then-kind-eq-MOD}
 use Rattle.expressions.proofs.operators.emit_before.Goals as goal
 

@@ -5,7 +5,6 @@ use Rattle.emitter.proofs.EmittedWords.{emits_then}
 use Rattle.parser.specs.Reads.Reads.{read, fails}
 use Rattle.parser.proofs.Answers.{got_read, got_failed}
 use Rattle.expressions.specs.Chains.{operator_words}
-use borrow.Author.Rules.{rules}
 use Rattle.expressions.proofs.operators.operated.Goals as goal
 
 pub returns-in_default : goal.returns-in_default

@@ -3,7 +3,6 @@ use Rattle.parser.proofs.Answers.{got_with_lem}
 use Rattle.parser.proofs.ReadLaws.{reads_on}
 use Rattle.expressions.proofs.ComparingLaws.{none_left}
 use Rattle.expressions.proofs.OperatorLaws.{binary_turn, shift_turn, no_turn}
-use borrow.Author.Rules.{rules}
 use Rattle.expressions.proofs.operators.operation.Goals as goal
 
 pub returns-then-operator-gt0 : goal.returns-then-operator-gt0

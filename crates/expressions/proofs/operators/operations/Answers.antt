@@ -1,20 +1,12 @@
-use mathlib.Core.Path.{◌≡◌, refl, ◌∙◌}
-use Prim.Native.Nat.{ℕ, ◌-◌}
-use mathlib.Core.List.{List, []}
+use mathlib.Core.Path.{refl, ◌∙◌}
+use mathlib.Core.List.{[]}
 use native.Mathlib.Omega.{arith}
-use borrow.Author.Rules.{rules}
-use lib.ListN.{length}
 use borrow.Author.Tests.{not-true, not-false}
 use Rattle.layout.specs.Words.{operations_words}
 use Rattle.grammar.specs.Parse.{repeat}
-use Rattle.grammar.specs.Expressions.{more_operations, parse_operations}
-use Rattle.symbols.specs.Table.{live_names}
-use Rattle.emitter.specs.declared.Context.{Context}
-use Rattle.emitter.specs.declared.Output.{Output}
-use Rattle.emitter.specs.Emitted.{emitted_by, bases_of}
-use Rattle.emitter.specs.Lays.{Lays}
+use Rattle.grammar.specs.Expressions.{parse_operations}
 use Rattle.emitter.proofs.Lays.{nothing}
-use Rattle.parser.proofs.ReadLaws.{Turning, turn_zero, turn_none, turn_failed, turn_next}
+use Rattle.parser.proofs.ReadLaws.{turn_zero, turn_none, turn_failed, turn_next}
 use Rattle.expressions.proofs.OperatorLaws.{turn_one, turn_last, more_none, more_some, after_others}
 use Rattle.expressions.proofs.operators.operations.Goals as goal
 

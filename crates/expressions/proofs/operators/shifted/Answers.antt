@@ -3,7 +3,6 @@ use Rattle.parser.specs.Reads.Reads.{read, fails}
 use Rattle.emitter.proofs.Lays.{kept_here}
 use Rattle.parser.proofs.Answers.{got_read, got_failed, got_with_lem}
 use Rattle.expressions.proofs.Leaves.{shift}
-use borrow.Author.Rules.{rules}
 use Rattle.expressions.proofs.operators.shifted.Goals as goal
 
 pub returns-in_default : goal.returns-in_default

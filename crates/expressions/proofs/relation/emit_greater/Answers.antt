@@ -1,6 +1,5 @@
 use Rattle.expressions.proofs.Leaves.{hole_later}
 use Rattle.expressions.proofs.RelationLaws.{greater}
-use borrow.Author.Rules.{rules}
 use Rattle.expressions.proofs.relation.emit_greater.Goals as goal
 
 pub returns : goal.returns

@@ -1,5 +1,4 @@
-use Rattle.expressions.proofs.RelationLaws.{same_kind, not_equal, less, equal, last_kind, at_least_lem}
-use borrow.Author.Rules.{rules}
+use Rattle.expressions.proofs.RelationLaws.{same_kind, equal, last_kind, at_least_lem}
 use Rattle.expressions.proofs.relation.emit_relation.Goals as goal
 
 pub returns-then-kind-eq-EQUAL : goal.returns-then-kind-eq-EQUAL

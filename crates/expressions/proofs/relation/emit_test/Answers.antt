@@ -2,7 +2,6 @@ use mathlib.Core.Path.{refl}
 use Rattle.layout.specs.Words.{◌⧺◌}
 use Rattle.emitter.proofs.Lays.{after_words, same_forward}
 use Rattle.expressions.proofs.Leaves.{generic, hole_later}
-use borrow.Author.Rules.{rules}
 use Rattle.expressions.proofs.relation.emit_test.Goals as goal
 
 pub returns : goal.returns

@@ -1,6 +1,4 @@
-use borrow.Author.Rules.{rules}
-use native.Mathlib.Omega.{arith}
-use Rattle.expressions.proofs.UnaryLaws.{past_end, laid}
+use Rattle.expressions.proofs.UnaryLaws.{laid}
 use Rattle.expressions.proofs.unaries.emit_unaries.Goals as goal
 
 pub returns : goal.returns

@@ -1,13 +1,7 @@
-use borrow.Author.Rules.{rules}
-use mathlib.Core.Path.{◌≡◌, refl, ◌∙◌}
-use Prim.Native.Nat.{◌-◌, ◌≤◌}
+use mathlib.Core.Path.{◌∙◌}
 use native.Mathlib.Omega.{arith}
-use lib.ListN.{length}
-use lib.Seq.{sets, length-sets}
-use Rattle.layout.specs.Words.{unaries_words}
-use Rattle.expressions.specs.Chains.{unaries_of}
-use Rattle.expressions.specs.Unaries.{values}
-use Rattle.expressions.proofs.UnaryLaws.{to_come, none_stored, runs_out, stops, turns, room, still_room, places}
+use lib.Seq.{length-sets}
+use Rattle.expressions.proofs.UnaryLaws.{turns, room, still_room, places}
 use Rattle.expressions.proofs.unaries.place_unaries.Goals as goal
 
 pub overflow_sub-place : goal.overflow_sub-place

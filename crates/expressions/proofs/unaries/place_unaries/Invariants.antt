@@ -1,13 +1,11 @@
-use borrow.Author.Rules.{rules}
-use mathlib.Core.Path.{◌≡◌, refl, ◌∙◌}
+use mathlib.Core.Path.{◌≡◌}
 use Prim.Native.Nat.{◌-◌, ◌≤◌}
-use native.Mathlib.Omega.{arith}
 use lib.ListN.{length}
-use lib.Seq.{sets, length-sets}
+use lib.Seq.{sets}
 use Rattle.layout.specs.Words.{unaries_words}
 use Rattle.expressions.specs.Chains.{unaries_of}
 use Rattle.expressions.specs.Unaries.{values}
-use Rattle.expressions.proofs.UnaryLaws.{to_come, none_stored, runs_out, stops, turns, room, still_room, places}
+use Rattle.expressions.proofs.UnaryLaws.{to_come}
 use Rattle.expressions.proofs.unaries.place_unaries.Given as goal
 
 -- The invariant: the words still to come, placed below `place`, make up the image that is promised.

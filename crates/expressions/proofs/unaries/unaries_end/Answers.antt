@@ -1,12 +1,5 @@
-use borrow.Author.Rules.{rules}
-use mathlib.Core.Path.{◌≡◌, refl}
-use Prim.Native.Nat.{◌+◌, ◌≤◌, min}
 use native.Mathlib.Omega.{arith}
-use lib.ListN.{length}
-use Rattle.layout.specs.Words.{unaries_words}
-use Rattle.layout.specs.Emission.{last_address}
-use Rattle.expressions.specs.Chains.{unaries_of}
-use Rattle.expressions.proofs.UnaryLaws.{to_come, none_counted, runs_out, stops, turns, advances}
+use Rattle.expressions.proofs.UnaryLaws.{turns, advances}
 use Rattle.expressions.proofs.unaries.unaries_end.Goals as goal
 
 pub loop-k-preserved : goal.loop-k-preserved

@@ -1,12 +1,10 @@
-use borrow.Author.Rules.{rules}
-use mathlib.Core.Path.{◌≡◌, refl}
+use mathlib.Core.Path.{◌≡◌}
 use Prim.Native.Nat.{◌+◌, ◌≤◌, min}
-use native.Mathlib.Omega.{arith}
 use lib.ListN.{length}
 use Rattle.layout.specs.Words.{unaries_words}
 use Rattle.layout.specs.Emission.{last_address}
 use Rattle.expressions.specs.Chains.{unaries_of}
-use Rattle.expressions.proofs.UnaryLaws.{to_come, none_counted, runs_out, stops, turns, advances}
+use Rattle.expressions.proofs.UnaryLaws.{to_come}
 use Rattle.expressions.proofs.unaries.unaries_end.Given as goal
 
 -- The invariant: `end` and the words still to come make up the address after all, up to the last.

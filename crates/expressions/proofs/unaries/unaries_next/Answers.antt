@@ -1,7 +1,5 @@
-use borrow.Author.Rules.{rules}
-use mathlib.Core.Path.{◌≡◌, refl, sym, ap, ◌∙◌}
-use Rattle.expressions.specs.Chains.{unaries_by, unaries_next}
-use Rattle.expressions.proofs.UnaryLaws.{runs_out, stops, turns}
+use mathlib.Core.Path.{sym, ◌∙◌}
+use Rattle.expressions.proofs.UnaryLaws.{turns}
 use Rattle.expressions.proofs.unaries.unaries_next.Goals as goal
 
 pub loop-k-preserved : goal.loop-k-preserved

@@ -1,7 +1,5 @@
-use borrow.Author.Rules.{rules}
-use mathlib.Core.Path.{◌≡◌, refl, sym, ap, ◌∙◌}
+use mathlib.Core.Path.{◌≡◌}
 use Rattle.expressions.specs.Chains.{unaries_by, unaries_next}
-use Rattle.expressions.proofs.UnaryLaws.{runs_out, stops, turns}
 use Rattle.expressions.proofs.unaries.unaries_next.Given as goal
 
 -- The invariant: the words from `i` on, up to `k`, end where all end.

@@ -3,7 +3,6 @@ use Rattle.prelude.specs.Choice.{find}
 use Rattle.source.specs.Kinds
 use Rattle.layout.specs.Words.{operator_form}
 use Rattle.expressions.specs.Vocabulary.{number_in}
-use borrow.Author.Rules.{rules}
 use Rattle.expressions.proofs.vocabulary.operator.Goals as goal
 
 pub returns-then-kind-eq-NEV : goal.returns-then-kind-eq-NEV

@@ -7,7 +7,7 @@ use Rattle.source.specs.Kinds
 use Rattle.source.proofs.Tests.{below}
 use Rattle.expressions.specs.Vocabulary.{word_table, ranged as ranged_def}
 use Rattle.expressions.proofs.VocabularyLaws.{holds}
-use borrow.Author.Rules.{rules, Fits-under}
+use borrow.Author.Rules.{Fits-under}
 use Rattle.expressions.proofs.vocabulary.ranged.Goals as goal
 
 -- no number of the table is large

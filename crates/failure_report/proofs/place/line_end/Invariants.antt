@@ -1,10 +1,7 @@
-use mathlib.Core.Path.{◌≡◌, refl, sym, ◌∙◌}
-use native.Mathlib.Omega.{arith}
+use mathlib.Core.Path.{◌≡◌}
 use Prim.Native.Nat.{◌+◌, ◌-◌, ◌≤◌}
 use lib.ListN.{length, drop}
-use borrow.Author.Rules.{rules}
 use Rattle.failure_report.specs.Place.{line_length}
-use Rattle.failure_report.proofs.Laws.{ends_here, ends_behind, ends_last}
 use Rattle.failure_report.proofs.place.line_end.Given as goal
 
 -- The invariant: the line from its start ends where it ends from `end` on.

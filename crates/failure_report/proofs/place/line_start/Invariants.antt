@@ -1,9 +1,6 @@
-use mathlib.Core.Path.{◌≡◌, refl, sym, ◌∙◌}
-use native.Mathlib.Omega.{arith}
+use mathlib.Core.Path.{◌≡◌}
 use Prim.Native.Nat.{◌≤◌}
-use borrow.Author.Rules.{rules}
 use Rattle.failure_report.specs.Place.{line_start}
-use Rattle.failure_report.proofs.Laws.{begins_here, begins_before, begins_first, newline_inside}
 use Rattle.failure_report.proofs.place.line_start.Given as goal
 
 -- The invariant: the line of the offset begins where the line of `i` does.

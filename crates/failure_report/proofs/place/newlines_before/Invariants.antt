@@ -1,9 +1,6 @@
-use mathlib.Core.Path.{◌≡◌, refl, sym, ap, ◌∙◌}
-use native.Mathlib.Omega.{arith}
-use Prim.Native.Nat.{◌+◌, ◌-◌, ◌≤◌}
-use borrow.Author.Rules.{rules}
+use mathlib.Core.Path.{◌≡◌}
+use Prim.Native.Nat.{◌-◌, ◌≤◌}
 use Rattle.failure_report.specs.Place.{newlines_before}
-use Rattle.failure_report.proofs.Laws.{newline_counted, other_passed}
 use Rattle.failure_report.proofs.place.newlines_before.Given as goal
 
 -- The invariant: `count` newlines stand before `i`.

@@ -1,11 +1,8 @@
 use mathlib.Core.List.{map}
-use native.Mathlib.Omega.{arith}
 use Prim.Native.Nat.{◌-◌, ◌≤◌}
 use lib.ListN.{length, drop}
-use borrow.Author.Rules.{rules}
-use Rattle.digits.proofs.Laws.{Left, begins, goes_on, is_whole}
+use Rattle.digits.proofs.Laws.{Left}
 use Rattle.failure_report.specs.Place.{visible}
-use Rattle.failure_report.proofs.Laws.{next_visible, no_visible}
 use Rattle.failure_report.proofs.visible.put_visible.Given as goal
 
 -- The invariant: what is written, with the text from `i` on as it is shown, gives the whole.

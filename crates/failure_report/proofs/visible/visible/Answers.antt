@@ -1,6 +1,5 @@
 use mathlib.Core.Path.{sym, ◌∙◌}
 use Rattle.failure_report.specs.Place as place
-use borrow.Author.Rules.{rules}
 use Rattle.failure_report.proofs.visible.visible.Goals as goal
 
 pub returns-then-is_between : goal.returns-then-is_between

@@ -1,7 +1,6 @@
 use Rattle.prelude.specs.Choice.{find}
 use Rattle.failure_report.specs.Failure.{words_of}
 use Rattle.failure_report.proofs.Laws.{no_words_lem}
-use borrow.Author.Rules.{rules}
 use Rattle.failure_report.proofs.words.put_words.Goals as goal
 
 pub returns-in-3 : goal.returns-in-3

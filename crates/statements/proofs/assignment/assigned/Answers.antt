@@ -4,7 +4,6 @@ use Rattle.parser.proofs.Answers.{part_read}
 use Rattle.parser.proofs.ReadLaws.{missing}
 use Rattle.emitter.proofs.Lays.{kept_here}
 use Rattle.statements.proofs.Forms.{from_got}
-use borrow.Author.Rules.{rules}
 use Rattle.statements.proofs.assignment.assigned.Goals as goal
 
 pub returns-in_default : goal.returns-in_default

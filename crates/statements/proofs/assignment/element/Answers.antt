@@ -6,7 +6,6 @@ use Rattle.parser.proofs.Answers.{then_failed, got_read, got_failed, got_with_le
 use Rattle.emitter.proofs.Lays.{kept_here}
 use Rattle.statements.proofs.Forms.{from_got}
 use Rattle.statements.proofs.AssignmentLaws.{stored_as}
-use borrow.Author.Rules.{rules}
 use Rattle.statements.proofs.assignment.element.Goals as goal
 
 pub returns-in_default : goal.returns-in_default

@@ -5,7 +5,6 @@ use Rattle.parser.proofs.Answers.{got_read, got_failed, part_read, got_with_lem}
 use Rattle.parser.proofs.ReadLaws.{missing}
 use Rattle.emitter.proofs.Lays.{kept_here}
 use Rattle.statements.proofs.Forms.{from_got, just_words}
-use borrow.Author.Rules.{rules}
 use Rattle.statements.proofs.assignment.set_x.Goals as goal
 
 pub returns-in_default : goal.returns-in_default

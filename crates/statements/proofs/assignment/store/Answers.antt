@@ -2,7 +2,6 @@ use Rattle.parser.specs.Reads.Reads.{read, fails}
 use Rattle.parser.proofs.ReadLaws.{came, failed_as, kept_as}
 use Rattle.statements.specs.Forms.{stored_words}
 use Rattle.statements.proofs.Forms.{then_words}
-use borrow.Author.Rules.{rules}
 use Rattle.statements.proofs.assignment.store.Goals as goal
 
 pub returns-in_default : goal.returns-in_default

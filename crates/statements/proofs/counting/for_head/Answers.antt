@@ -3,7 +3,6 @@ use Rattle.tree.specs.Tree.{Id}
 use Rattle.symbols.specs.Trees.{tree_id, tree_operand, tree_cell}
 use Rattle.statements.specs.Forms.{Head, counter_of, head_words}
 use Rattle.statements.proofs.CountingLaws.{head_hash, head_integer, head_refused, heads, no_head}
-use borrow.Author.Rules.{rules}
 use borrow.Enum.Refused.{opened}
 use Rattle.statements.proofs.counting.for_head.Goals as goal
 
