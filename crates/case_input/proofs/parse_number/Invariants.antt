@@ -1,10 +1,7 @@
-use mathlib.Core.Path.{◌≡◌, refl, sym, ◌∙◌}
+use mathlib.Core.Path.{◌≡◌}
 use Prim.Native.Nat.{◌-◌}
-use borrow.Author.Rules.{rules}
-use borrow.Author.Tests.{not-true, not-false}
 use lib.ListN.{length, drop}
 use Rattle.case_input.specs.Cases.{number_from}
-use Rattle.case_input.proofs.Numbers.{ended, digit, other}
 use Rattle.case_input.proofs.parse_number.Given as goal
 
 -- What is left of the text decides.

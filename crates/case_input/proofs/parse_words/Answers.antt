@@ -1,10 +1,6 @@
 use borrow.Author.Rules.{rules}
-use Prim.Native.Nat.{◌≤◌, ◌-◌}
-use native.Mathlib.Numerals.{unary_clauses}
-use lib.ListN.{length}
-use mathlib.Core.Path.{◌≡◌, refl, sym, ◌∙◌}
-use Rattle.case_input.specs.Cases.{set_from}
-use Rattle.case_input.proofs.Numbers.{all_set, one_set}
+use mathlib.Core.Path.{sym, ◌∙◌}
+use Rattle.case_input.proofs.Numbers.{one_set}
 use Rattle.case_input.proofs.parse_words.Goals as goal
 
 pub loop-preserved : goal.loop-preserved

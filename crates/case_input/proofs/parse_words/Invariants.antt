@@ -1,10 +1,7 @@
-use borrow.Author.Rules.{rules}
 use Prim.Native.Nat.{◌≤◌, ◌-◌}
-use native.Mathlib.Numerals.{unary_clauses}
 use lib.ListN.{length}
-use mathlib.Core.Path.{◌≡◌, refl, sym, ◌∙◌}
+use mathlib.Core.Path.{◌≡◌}
 use Rattle.case_input.specs.Cases.{set_from}
-use Rattle.case_input.proofs.Numbers.{all_set, one_set}
 use Rattle.case_input.proofs.parse_words.Given as goal
 
 -- What is left of the count is still to be set; the image keeps its length.

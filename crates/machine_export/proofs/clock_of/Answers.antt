@@ -1,11 +1,11 @@
-use Prim.Native.Nat.{ℕ, ◌≤◌, ◌-◌}
+use Prim.Native.Nat.{ℕ}
 use mathlib.Core.List.{List}
-use mathlib.Core.Path.{◌≡◌, refl, sym, ap, ◌∙◌}
+use mathlib.Core.Path.{◌≡◌, sym, ap, ◌∙◌}
 use native.Mathlib.Omega.{arith}
 use lib.ListN.{length, get_or, set, drop, replicate, length-drop}
-use lib.Seq.{get_or-drop, paste, paste-zero}
+use lib.Seq.{get_or-drop}
 use borrow.Author.Rules.{rules}
-use Rattle.machine_export.proofs.Copies.{copied, one_more_first}
+use Rattle.machine_export.proofs.Copies.{one_more_first}
 use Rattle.machine_export.proofs.clock_of.Goals as goal
 
 pub loop-i-preserved : goal.loop-i-preserved

@@ -1,11 +1,7 @@
-use Prim.Native.Nat.{ℕ, ◌≤◌, ◌-◌}
-use mathlib.Core.List.{List}
-use mathlib.Core.Path.{◌≡◌, refl, sym, ap, ◌∙◌}
-use native.Mathlib.Omega.{arith}
-use lib.ListN.{length, get_or, set, drop, replicate, length-drop}
-use lib.Seq.{get_or-drop, paste, paste-zero}
-use borrow.Author.Rules.{rules}
-use Rattle.machine_export.proofs.Copies.{copied, one_more_first}
+use Prim.Native.Nat.{◌≤◌, ◌-◌}
+use mathlib.Core.Path.{◌≡◌}
+use lib.ListN.{length, drop}
+use lib.Seq.{paste}
 use Rattle.machine_export.proofs.clock_of.Given as goal
 
 -- The first i counts are copied.

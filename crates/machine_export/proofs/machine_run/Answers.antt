@@ -1,9 +1,7 @@
-use mathlib.Core.Path.{refl, sym, ap, ◌∙◌}
+use mathlib.Core.Path.{sym, ◌∙◌}
 use native.Mathlib.Omega.{arith}
-use Rattle.machine.specs.declared.Report.{Report}
-use Rattle.machine_export.specs.Export.{numbers, Fitting, with_machine, clock_numbers, with_report}
+use Rattle.machine_export.specs.Export.{numbers, Fitting}
 use Rattle.machine_export.proofs.Facts.{fitting}
-use borrow.Author.Rules.{rules}
 use Rattle.machine_export.proofs.machine_run.Goals as goal
 
 pub bounds-request-0 : goal.bounds-request-0

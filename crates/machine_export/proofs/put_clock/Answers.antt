@@ -1,9 +1,9 @@
-use Prim.Native.Nat.{ℕ, ◌+◌, ◌≤◌, ◌-◌}
+use Prim.Native.Nat.{ℕ, ◌+◌}
 use mathlib.Core.List.{List}
 use mathlib.Core.Path.{◌≡◌, ap, ◌∙◌}
 use native.Mathlib.Omega.{arith}
 use lib.ListN.{length, get_or, set, length-set}
-use lib.Seq.{paste, paste-zero}
+use lib.Seq.{paste}
 use borrow.Author.Rules.{rules}
 use Rattle.machine_export.proofs.Copies.{copied, one_more, behind_first}
 use Rattle.machine_export.proofs.put_clock.Goals as goal
