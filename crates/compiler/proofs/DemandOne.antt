@@ -83,3 +83,5 @@ demand1_called = record {
       (by_lengths source image scratch r image' (eqb (length image) memory_words) (leb scratch_words (length scratch)) refl refl call.answered call.laid, call.cleared);
   runs = λ c call. by_refusal c call (refused (asked c).outcome) refl (asked c).outcome refl;
 }
+
+pub ruleset demand_demand_one_called_laws = (demand1_called)

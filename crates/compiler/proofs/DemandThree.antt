@@ -20,7 +20,7 @@ use Rattle.semantics.proofs.Demand.Theorem.{demand3}
 use Rattle.semantics.proofs.Demand.Loading as loading
 use Rattle.compiler.specs.declared.Answer.{Answer}
 use Rattle.compiler.specs.Compile.{scratch_words, result_on, answer_of, image_after}
-use Rattle.compiler.specs.DemandThree.{Calls, delivered, Accepted, Demand3Called}
+use Rattle.compiler.specs.DemandThree.{Calls, delivered, Demand3Called}
 use Rattle.layout.specs.Addresses.{memory_words}
 
 -- ---- What calls come to, runs come to
@@ -97,3 +97,5 @@ demand3_called source image scratch image' scratch' r call e w g q =
       called = called;
       loads = loading.loadable source _ d;
     }
+
+pub ruleset demand_demand_three_called_laws = (demand3_called)

@@ -11,7 +11,7 @@ use Rattle.parser.specs.declared.Part.{Part}
 use Rattle.tree.specs.Tree.{Program}
 use Rattle.layout.specs.Allocation as layout
 use Rattle.grammar.specs.Parse.{Got}
-use Rattle.grammar.specs.Parse.Got.{got, failed}
+use Rattle.grammar.specs.Parse.Got.{got}
 use Rattle.grammar.specs.Program.{parse_program}
 use Rattle.layout.specs.Map.{declared, finished, plan_of}
 use Rattle.compilation.specs.Compile.{Result, result_of, compile_def, compiled}
@@ -151,3 +151,7 @@ module _ (source image scratch : List ℕ) where
 
   pub checked : length image ≡ memory_words → scratch_words ≤ length scratch → {r : Answer} {image' : List ℕ} → Answers (compile_def source) image r image' → Done r image'
   checked h l d = done (compile_def source) (compiles h l) d
+
+pub ruleset check_and_compile_laws = (wrong_image_lem, short_scratch, long_source, checked)
+
+pub ruleset read_twice_laws = (part_accepted, part_failed, failed_reading, accepted_reading)

@@ -40,3 +40,5 @@ scratch_laws = record {
       (call.answered ∙ sym e.0, call.laid ∙ sym e.1);
   only_short = λ call q. only_two (demand1_called.compiles _ _ _ _ _ _ call).0 q;
 }
+
+pub ruleset demand_scratch_laws_laws = (scratch_laws)

@@ -78,6 +78,7 @@ fn accepted(read: ProgramAnswer) -> Answer
 }
 
 // The answer for a program that was read, or the failure that its reading ended in.
+#[tactic(auto, unfolding(crate::specs::Readings::answered_by))]
 fn answered(read: ProgramAnswer) -> Answer
     ensures { result ≡ answered_of read }
 {
