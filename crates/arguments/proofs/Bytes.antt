@@ -76,6 +76,6 @@ module _ (s : List ℕ) (i n : ℕ) where
   unfolding all number
   done h = rw (drop_of_length-le s h)
 
-pub ruleset all_switches_laws = (all_next, all_not, all_done)
+pub ruleset for_all_switches = (all_next, all_not, all_done)
 
-pub ruleset turns_laws = (digit, other, over, done, counted, bounds)
+pub ruleset for_turns = (digit, other, over, done, counted, bounds)

@@ -24,7 +24,7 @@ pub enum SwitchesArgument {
 }
 
 // More digits make no number smaller, so that one past the limit decides: any number of digits may be handed in.
-#[tactic(auto, using(crate::proofs::Bytes::turns_laws), unfolding(crate::specs::Arguments::turns_of))]
+#[tactic(auto, using(crate::proofs::Bytes::for_turns), unfolding(crate::specs::Arguments::turns_of))]
 pub fn turns(text: &[u8]) -> TurnsArgument
     ensures { turns_in result ≡ turns_of text.now }
 {
@@ -45,7 +45,7 @@ pub fn turns(text: &[u8]) -> TurnsArgument
     TurnsArgument::Turns(n)
 }
 
-#[tactic(auto, using(crate::proofs::Bytes::all_switches_laws))]
+#[tactic(auto, using(crate::proofs::Bytes::for_all_switches))]
 fn all_switches(text: &[u8]) -> bool
     ensures { result ≡ all is_switch text.now }
 {

@@ -39,6 +39,6 @@ module _ (text : List ℕ) (left counter at : ℕ) (image : List ℕ) where
       one_more : counter < left → left - counter ≡ suc (left - (counter + 1))
       one_more h = omega arith
 
-pub ruleset parse_number_laws = (ended, digit, other)
+pub ruleset for_parse_number = (ended, digit, other)
 
-pub ruleset parse_words_laws = (all_set, one_set)
+pub ruleset for_parse_words = (all_set, one_set)

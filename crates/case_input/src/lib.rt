@@ -30,7 +30,7 @@ fn appended(value: u32, digit: u8) -> u32
 }
 
 // A number that is missing is 0.
-#[tactic(auto, using(crate::proofs::Numbers::parse_number_laws))]
+#[tactic(auto, using(crate::proofs::Numbers::for_parse_number))]
 pub fn parse_number(text: &[u8], at: usize) -> Number
     ensures { result ≡ number_from (drop at text.now) 0 at }
 {
@@ -109,7 +109,7 @@ pub fn parse_switches(text: &[u8], at: usize) -> StartSwitches
 }
 
 // Sets words of an image: their count, then the address and the value of each. Answers where the next number starts.
-#[tactic(auto, using(crate::proofs::Numbers::parse_words_laws))]
+#[tactic(auto, using(crate::proofs::Numbers::for_parse_words))]
 pub fn parse_words(text: &[u8], at: usize, image: &mut [u16; 16384]) -> usize
     ensures { ((image.new, result) ≡ words_from text.now at image.old)
         × (length image.new ≡ length image.old) }

@@ -23,7 +23,3 @@ module _ (source : List ℕ) (names : Names) (in_range : ℕ → Bool) (at : ℕ
   pub range_out : {n : ℕ} → p ≡ Part.Read n → in_range v ≡ false → (Part.Failed (failure_at (token_at source at) 5) (token_at source at).at, 0) ≡ read_or 0 (parse_in_range source names in_range at)
   unfolding parse_in_range fail_at
   range_out q h = failed_answer 0 (then_got _ (got_read (got_with_lem 0 e) q) ∙ rw h) refl
-
-pub ruleset amount_at_laws = (range_failed, range_in, range_out)
-
-pub ruleset size_at_laws = (range_failed, range_in, range_out)

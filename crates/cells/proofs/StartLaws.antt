@@ -67,6 +67,4 @@ module _ (source : List ℕ) (names : Names) (t : Token) where
   unfolding too_deep_expr
   deep_term n o = rw (ne_eqb t.kind Kinds.IF n) (out_of_rows _ _ t.kind counted_unaries o)
 
-pub ruleset starts_opening_of_laws = (no_opening)
-
-pub ruleset starts_too_deep_at_laws = (deep_if, deep_unary, deep_term)
+pub ruleset for_opening_of = (no_opening)

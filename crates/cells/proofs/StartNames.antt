@@ -141,16 +141,10 @@ no_start (Symbol.Array a) l f g h k = absurd (miss (1 ∷ 2 ∷ 5 ∷ []) 3 tt l
 no_start (Symbol.Procedure p accumulator) l f g h k = absurd (miss (1 ∷ 2 ∷ 5 ∷ []) 4 tt l)
 no_start Symbol.Unknown l f g h k = refl
 
-pub ruleset cell_cell_at_laws = (cell_is)
+pub ruleset for_cell_start_of = (no_array)
 
-pub ruleset cell_cell_start_of_laws = (no_array)
+pub ruleset for_inner_subscript_at = (operand_is)
 
-pub ruleset cell_inner_subscript_at_laws = (operand_is)
+pub ruleset for_operand_of = (no_operand)
 
-pub ruleset cell_operand_of_laws = (no_operand)
-
-pub ruleset constant_at_laws = (constant_is, no_constant)
-
-pub ruleset starts_statement_start_at_laws = (statement_is, no_start)
-
-pub ruleset starts_term_start_at_laws = (term_is)
+pub ruleset for_term_start_at = (term_is)

@@ -57,7 +57,7 @@ fn no_cell() -> Cell
 }
 
 // A token as an operand, by what it stands for (E1).
-#[tactic(auto, using(parser::proofs::Answers::refused_with, crate::proofs::StartNames::cell_operand_of_laws), unfolding(parser::specs::Answers::read_or, crate::specs::Starts::operand_by, tree::specs::Symbols::as_operand, symbols::specs::Trees::tree_operand, symbols::specs::Trees::tree_symbol))]
+#[tactic(auto, using(parser::proofs::Answers::refused_with, crate::proofs::StartNames::for_operand_of), unfolding(parser::specs::Answers::read_or, crate::specs::Starts::operand_by, tree::specs::Symbols::as_operand, symbols::specs::Trees::tree_operand, symbols::specs::Trees::tree_symbol))]
 fn operand_of(t: Token, symbol: Symbol) -> OperandAnswer
     ensures { (result.part, tree_operand result.operand) ≡ read_or no_operand (operand_by (tree_symbol symbol) t) }
 {
@@ -83,7 +83,7 @@ fn operand_of(t: Token, symbol: Symbol) -> OperandAnswer
 }
 
 // A subscript between its brackets (E3).
-#[tactic(auto, using(parser::proofs::Answers::got_with_lem, parser::proofs::Answers::got_read, parser::proofs::Answers::got_failed, parser::proofs::Answers::then_got, parser::proofs::Answers::then_failed, parser::proofs::Answers::read_answer, parser::proofs::Answers::failed_answer, crate::proofs::StartNames::cell_inner_subscript_at_laws), unfolding(parser::specs::Answers::read_or, grammar::specs::Cells::subscript_of, symbols::specs::Trees::tree_subscript))]
+#[tactic(auto, using(parser::proofs::Answers::got_with_lem, parser::proofs::Answers::got_read, parser::proofs::Answers::got_failed, parser::proofs::Answers::then_got, parser::proofs::Answers::then_failed, parser::proofs::Answers::read_answer, parser::proofs::Answers::failed_answer, crate::proofs::StartNames::for_inner_subscript_at), unfolding(parser::specs::Answers::read_or, grammar::specs::Cells::subscript_of, symbols::specs::Trees::tree_subscript))]
 fn inner_subscript_at(source: &[u8], table: &[u16], names: usize, at: usize) -> SubscriptAnswer
     ensures { (result.part, tree_subscript result.subscript)
         ≡ read_or tree.Subscript.hash (subscript_of source.now (live_names names table.now) (token_at source.now at)) }
@@ -139,7 +139,7 @@ pub fn subscript_at(source: &[u8], table: &[u16], names: usize, at: usize) -> Su
 }
 
 // A cell's first token, by what it stands for.
-#[tactic(auto, using(parser::proofs::Answers::got_with_lem, parser::proofs::Answers::got_read, parser::proofs::Answers::got_failed, parser::proofs::Answers::then_got, parser::proofs::Answers::then_failed, parser::proofs::Answers::read_answer, parser::proofs::Answers::failed_answer, crate::proofs::StartNames::cell_cell_start_of_laws), unfolding(crate::specs::Starts::cell_by, crate::specs::Answers::tree_cell_start, symbols::specs::Trees::tree_operand, parser::specs::Answers::read_or, tree::specs::Symbols::as_array, symbols::specs::Trees::tree_symbol))]
+#[tactic(auto, using(parser::proofs::Answers::got_with_lem, parser::proofs::Answers::got_read, parser::proofs::Answers::got_failed, parser::proofs::Answers::then_got, parser::proofs::Answers::then_failed, parser::proofs::Answers::read_answer, parser::proofs::Answers::failed_answer, crate::proofs::StartNames::for_cell_start_of), unfolding(crate::specs::Starts::cell_by, crate::specs::Answers::tree_cell_start, symbols::specs::Trees::tree_operand, parser::specs::Answers::read_or, tree::specs::Symbols::as_array, symbols::specs::Trees::tree_symbol))]
 pub(crate) fn cell_start_of(t: Token, symbol: Symbol) -> CellStartAnswer
     ensures { (result.part, tree_cell_start result.start) ≡ read_or (cells.CellStart.operand no_operand) (cell_by (tree_symbol symbol) t) }
 {

@@ -70,7 +70,7 @@ fn named_term_of(t: Token, symbol: Symbol) -> TermAnswer
     cell_term_of(t, symbol)
 }
 
-#[tactic(auto, using(crate::proofs::StartNames::starts_term_start_at_laws), unfolding(grammar::specs::Expressions::term_start, parser::specs::Answers::read_or, crate::specs::Answers::tree_term_start))]
+#[tactic(auto, using(crate::proofs::StartNames::for_term_start_at), unfolding(grammar::specs::Expressions::term_start, parser::specs::Answers::read_or, crate::specs::Answers::tree_term_start))]
 pub fn term_start_at(source: &[u8], table: &[u16], names: usize, at: usize) -> TermAnswer
     ensures { (result.part, tree_term_start result.start)
         ≡ read_or TermDef.zero_word (term_start source.now (live_names names table.now) (token_at source.now at)) }
@@ -116,7 +116,7 @@ pub fn too_deep_at(source: &[u8], table: &[u16], names: usize, at: usize) -> Par
 }
 
 // A statement that does not begin with a name.
-#[tactic(auto, using(parser::proofs::Answers::refused_with, crate::proofs::StartLaws::starts_opening_of_laws), unfolding(crate::specs::Answers::tree_statement_start, crate::specs::Starts::opening, prelude::specs::Choice::find, parser::specs::Answers::read_or))]
+#[tactic(auto, using(parser::proofs::Answers::refused_with, crate::proofs::StartLaws::for_opening_of), unfolding(crate::specs::Answers::tree_statement_start, crate::specs::Starts::opening, prelude::specs::Choice::find, parser::specs::Answers::read_or))]
 fn opening_of(t: Token) -> StatementAnswer
     ensures { (result.part, tree_statement_start result.start) ≡ read_or StatementDef.hash (opening t) }
 {

@@ -84,4 +84,4 @@ demand1_called = record {
   runs = λ c call. by_refusal c call (refused (asked c).outcome) refl (asked c).outcome refl;
 }
 
-pub ruleset demand_demand_one_called_laws = (demand1_called)
+pub ruleset for_demand_one_called = (demand1_called)

@@ -98,4 +98,4 @@ demand3_called source image scratch image' scratch' r call e w g q =
       loads = loading.loadable source _ d;
     }
 
-pub ruleset demand_demand_three_called_laws = (demand3_called)
+pub ruleset for_demand_three_called = (demand3_called)

@@ -151,7 +151,3 @@ module _ (source image scratch : List ℕ) where
 
   pub checked : length image ≡ memory_words → scratch_words ≤ length scratch → {r : Answer} {image' : List ℕ} → Answers (compile_def source) image r image' → Done r image'
   checked h l d = done (compile_def source) (compiles h l) d
-
-pub ruleset check_and_compile_laws = (wrong_image_lem, short_scratch, long_source, checked)
-
-pub ruleset read_twice_laws = (part_accepted, part_failed, failed_reading, accepted_reading)

@@ -41,4 +41,4 @@ scratch_laws = record {
   only_short = λ call q. only_two (demand1_called.compiles _ _ _ _ _ _ call).0 q;
 }
 
-pub ruleset demand_scratch_laws_laws = (scratch_laws)
+pub ruleset for_scratch_laws = (scratch_laws)

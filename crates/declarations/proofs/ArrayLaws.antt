@@ -248,18 +248,8 @@ module _ (source : List ℕ) (names : Names) (at : ℕ) {first size count : ℕ}
   pub value_fails : {held : List ℕ → Type 0} {k a : ℕ} → initial_value source names size count at ≡ failed k a → part ≡ Part.Failed k a → Declares held part (parse_initial source names size values at)
   value_fails e p = fails (more_values source names size at values f.counted ∙ then_failed _ e) p tt
 
-pub ruleset arrays_array_laws = (head_room, array_head_lem, array_values, array_on, array_declared)
+pub ruleset for_array = (head_room, array_head_lem, array_values, array_on, array_declared)
 
-pub ruleset arrays_array_head_laws = (head_name, head_size, head_closing)
+pub ruleset for_closing = (closing_other, closing_on)
 
-pub ruleset arrays_array_list_laws = (array_next)
-
-pub ruleset arrays_closing_laws = (closing_other, closing_on)
-
-pub ruleset globals_global_name_laws = (global_name_lem)
-
-pub ruleset values_initial_value_laws = (value_failed, value_many, value_got)
-
-pub ruleset values_initials_laws = (initials_none, initials_on, none_stored, padded_stored)
-
-pub ruleset values_values_laws = (value_room, none_filled, value_next, value_fails)
+pub ruleset for_values = (value_room, none_filled, value_next, value_fails)

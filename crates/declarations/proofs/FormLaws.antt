@@ -319,6 +319,4 @@ main_def source checked ds at =
     within_into (main_limit (allocated ds) main) last (and_then (expect Kinds.end_of_source source last.next) (λ _ next. got main next)) _ done
     (into (expect Kinds.end_of_source source last.next) (λ _ next. got main next) done _ (λ _ next. refl))))
 
-pub ruleset program_declaration_laws = (in_items, in_array, in_sector, in_procedure_lem, in_accumulator)
-
-pub ruleset program_declarations_laws = (declarations_first, declaration_none, declaration_some, declaration_next)
+pub ruleset for_declarations = (declarations_first, declaration_none, declaration_some, declaration_next)

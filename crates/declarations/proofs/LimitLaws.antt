@@ -317,14 +317,8 @@ module _ {f : Bases} {a b : Emitted} {w : WordsAt} (lays : Lays f a b w) (sector
           let q = ap length p in
           record { all = lays.fits h; next = n; pool = p; used = omega (arith, n, q, grown); fits = l }
 
-pub ruleset limits_limit_then_expect_laws = (passed_read, passed_failed, limited_on)
+pub ruleset for_limit_then_expect = (passed_read, passed_failed, limited_on)
 
-pub ruleset limits_sector_limit_laws = (sector_on, sector_over)
+pub ruleset for_sector_limit = (sector_on, sector_over)
 
-pub ruleset limits_space_limit_laws = (space_on, space_over)
-
-pub ruleset program_declaration_laws = (next_any)
-
-pub ruleset sectors_next_limit_laws = (sector_number_lem, follow_limit_lem, follow_on, follow_none)
-
-pub ruleset sectors_next_sector_laws = (limited_failed, limited_read, limited_limit, follow_fits, next_limited)
+pub ruleset for_space_limit = (space_on, space_over)

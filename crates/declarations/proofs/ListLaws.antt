@@ -141,6 +141,4 @@ pub locals_next : (source : List ℕ) (word : ItemKeyword) (at : ℕ) {s s' s'' 
 locals_next source word at {s} {t = t} {done = done} p r =
     reads_as (λ items. done ++ items) r refl (list_more source (scope_of s t) word done at ∙ ap (λ z. mapped (λ items. done ++ items) (parse_list source (parse_local source z word) [] at)) (sym p.scope)) (λ items d. more_scoped p d) (λ w. w)
 
-pub ruleset lists_item_keyword_laws = (keyword_integer, keyword_constant, keyword_compconstant, keyword_none)
-
-pub ruleset lists_locals_laws = (locals_first, local_none, local_some, locals_next)
+pub ruleset for_locals = (locals_first, local_none, local_some, locals_next)

@@ -139,14 +139,8 @@ limit_same ItemKeyword.integer s u p q = rw (p, q)
 limit_same ItemKeyword.constant s u p q = rw (p, q)
 limit_same ItemKeyword.compconstant s u p q = refl
 
-pub ruleset arrays_array_laws = (held_length)
+pub ruleset for_array = (held_length)
 
-pub ruleset items_item_laws = (held_length)
+pub ruleset for_name_failure = (held_length, failure_kind, failure_taken, failure_full, failure_limit)
 
-pub ruleset names_name_failure_laws = (held_length, failure_kind, failure_taken, failure_full, failure_limit)
-
-pub ruleset names_name_limit_laws = (limit_full, limit_none, limit_local)
-
-pub ruleset names_new_name_laws = (new_is)
-
-pub ruleset procedures_procedure_laws = (held_length)
+pub ruleset for_procedure = (held_length)

@@ -63,30 +63,8 @@ module _ (kind : ℕ) (source : List ℕ) (at : ℕ) where
   unfolding expect
   expect_other {t} e k = rw (← e, ne_eqb _ _ k)
 
-pub ruleset arrays_array_laws = (gives_read)
+pub ruleset for_array = (gives_read)
 
-pub ruleset arrays_array_head_laws = (gives, gives_read)
+pub ruleset for_procedure = (gives_read)
 
-pub ruleset arrays_bracketed_laws = (expected, gives)
-
-pub ruleset items_item_laws = (gives_read)
-
-pub ruleset items_item_at_laws = (gives_read)
-
-pub ruleset items_value_at_laws = (expected, gives)
-
-pub ruleset names_new_name_laws = (gives)
-
-pub ruleset names_pass_at_laws = (within_on, within_failed)
-
-pub ruleset procedures_accumulator_laws = (expected)
-
-pub ruleset procedures_heading_laws = (expected, gives_read)
-
-pub ruleset procedures_procedure_laws = (gives_read)
-
-pub ruleset program_opening_laws = (expected)
-
-pub ruleset program_whole_laws = (gives_read)
-
-pub ruleset values_values_laws = (gives_read)
+pub ruleset for_values = (gives_read)

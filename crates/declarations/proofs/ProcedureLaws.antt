@@ -253,16 +253,4 @@ module _ {s : Allocation} {t image v image' : List ℕ} {pool : ℕ} {name : Nam
           (record { scope = record { names = b; level = Level.outer; taken = s.taken + 1 }; next = e; pool = j; ends = ends_of s.sectors; array = s.array })
       allocation_is p q r = rw (p, q, r)
 
-pub ruleset frames_frame_laws = (frame_parsed, frame_framed)
-
-pub ruleset frames_local_scope_laws = (inner_is)
-
-pub ruleset limits_end_then_expect_laws = (ended_other, ended_on)
-
-pub ruleset procedures_body_laws = (body_locals, body_statements, body_on, body_bodied)
-
-pub ruleset procedures_heading_laws = (heading_name, heading_semicolon, heading_begin)
-
-pub ruleset procedures_procedure_laws = (heading_room, procedure_heading, procedure_body, procedure_ended, procedure_on, procedure_limit, procedure_declared, end_limit)
-
-pub ruleset program_main_body_laws = (end_limit)
+pub ruleset for_procedure = (heading_room, procedure_heading, procedure_body, procedure_ended, procedure_on, procedure_limit, procedure_declared, end_limit)

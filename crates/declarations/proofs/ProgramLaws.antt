@@ -190,13 +190,3 @@ module _ {plan : SectorEnds} {s₀ s : Allocation} {t image t' image₁ image₂
         pool = q.pool ∙ ap (λ x. (layout.finish x main).pool) allocation;
         laid = q.laid ∙ ap₂ (λ x y. emit_main (end_of plan (length x.ends)) x main y) allocation (p.laid ∙ ap (λ x. emit_declarations (end_of plan) x ds image) e);
       }
-
-pub ruleset globals_global_items_laws = (globals_declared)
-
-pub ruleset program_checked_at_laws = (checked_none, checked_on)
-
-pub ruleset program_main_body_laws = (main_failed, main_ended, main_on, main_lays, main_limit_lem, main_finished)
-
-pub ruleset program_start_allocation_laws = (none_alive)
-
-pub ruleset program_whole_laws = (program_begin, program_declarations, program_main, program_compiled)

@@ -165,12 +165,4 @@ pub item_room : (source : List â„•) (word : ItemKeyword) (scope : Scope) (at : â
 unfolding parse_item
 item_room source word scope at e = name_room source scope (item_limit word scope) (token_at source at) (then_inv _ _ e).2
 
-pub ruleset items_item_laws = (one_scoped, item_room)
-
-pub ruleset items_item_at_laws = (named_by, item_failed, item_on)
-
-pub ruleset items_item_from_laws = (from_integer, from_constant, from_compconstant)
-
-pub ruleset lists_item_list_laws = (none_scoped, local_next)
-
-pub ruleset lists_locals_laws = (none_scoped)
+pub ruleset for_locals = (none_scoped)

@@ -57,7 +57,3 @@ module _ {e : SectorEnds} (h : Closed e) where
     -- where each sector's code ends
     pub each_end : (k : ℕ) → end_of (with_end e code) k ≡ get_or (ends_of e ++ (code ∷ [])) k 0
     each_end k = ap (λ x. get_or x k 0) one_more ∙ past (ends_of e ++ (code ∷ [])) (32 - (e.count + 1)) k
-
-pub ruleset sectors_next_limit_laws = (ends_length)
-
-pub ruleset sectors_next_sector_laws = (ends_length)

@@ -35,7 +35,7 @@ fn bracketed(source: &[u8], table: &[u16], names: usize, at: usize) -> ConstantA
 }
 
 // `]`, where the limit of the array's space is.
-#[tactic(auto, using(crate::proofs::ArrayLaws::arrays_closing_laws))]
+#[tactic(auto, using(crate::proofs::ArrayLaws::for_closing))]
 fn closing(source: &[u8], output: Output, size: u16, array: u16, at: usize) -> Part
     ensures { result ≡ part_of (closing_at source.now (space_number (pool_end output + size) array) at) }
 {
@@ -82,7 +82,7 @@ fn array_head(source: &[u8], table: &[u16], allocation: Allocation, at: usize) -
 }
 
 // An array, declared and emitted.
-#[tactic(auto, using(crate::proofs::ParseLaws::arrays_array_laws, crate::proofs::NameLaws::arrays_array_laws, parser::proofs::ReadLaws::came, parser::proofs::ReadLaws::failed_as, crate::proofs::ArrayLaws::arrays_array_laws))]
+#[tactic(auto, using(crate::proofs::ParseLaws::for_array, crate::proofs::NameLaws::for_array, parser::proofs::ReadLaws::came, parser::proofs::ReadLaws::failed_as, crate::proofs::ArrayLaws::for_array))]
 fn array(
     source: &[u8],
     table: &mut [u16],

@@ -14,7 +14,7 @@ use source::{Token, token_at};
 const SECTOR_WORDS: usize = addresses::SECTOR_WORDS as usize;
 
 // 13 where code and pending pool, with an array of a size, reach above element 0 of the next array (F13).
-#[tactic(auto, using(crate::proofs::LimitLaws::limits_space_limit_laws))]
+#[tactic(auto, using(crate::proofs::LimitLaws::for_space_limit))]
 pub fn space_limit(output: Output, size: u16, array: u16) -> u16
     ensures { result ≡ space_number (pool_end output + size) array }
 {
@@ -26,7 +26,7 @@ pub fn space_limit(output: Output, size: u16, array: u16) -> u16
 }
 
 // 12 where code and pending pool reach above their sector, the one after so many closed ones (F12); then 13.
-#[tactic(auto, using(crate::proofs::LimitLaws::limits_sector_limit_laws))]
+#[tactic(auto, using(crate::proofs::LimitLaws::for_sector_limit))]
 pub fn sector_limit(output: Output, closed: usize, array: u16) -> u16
     requires { closed ≤ 30 }
     ensures { result ≡ sector_number (pool_end output) closed array }
@@ -39,7 +39,7 @@ pub fn sector_limit(output: Output, closed: usize, array: u16) -> u16
 }
 
 // A limit at the last token of a part, and the token that must follow.
-#[tactic(auto, using(crate::proofs::LimitLaws::limits_limit_then_expect_laws))]
+#[tactic(auto, using(crate::proofs::LimitLaws::for_limit_then_expect))]
 pub fn limit_then_expect(source: &[u8], last: Token, limit: u16, kind: u16) -> Part
     ensures { result ≡ part_of (limit_then_expect source.now limit last kind) }
 {

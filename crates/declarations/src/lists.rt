@@ -94,7 +94,7 @@ pub fn item_keyword(kind: u16) -> KeywordFound
 }
 
 // Any lists of locals, each ended by `;`.
-#[tactic(auto, using(parser::proofs::ReadLaws::turn_zero, parser::proofs::ReadLaws::turn_none, parser::proofs::ReadLaws::turn_failed, parser::proofs::ReadLaws::turn_next, crate::proofs::ScopeLaws::lists_locals_laws, crate::proofs::ListLaws::lists_locals_laws))]
+#[tactic(auto, using(parser::proofs::ReadLaws::turn_zero, parser::proofs::ReadLaws::turn_none, parser::proofs::ReadLaws::turn_failed, parser::proofs::ReadLaws::turn_next, crate::proofs::ScopeLaws::for_locals, crate::proofs::ListLaws::for_locals))]
 pub fn locals(
     source: &[u8],
     table: &mut [u16],

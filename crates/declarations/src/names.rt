@@ -31,7 +31,7 @@ pub fn pass_at(t: Token, number: u16) -> Part
 }
 
 // The failure of a new name, by its token and its packed words, with the limit of its own word; or 0 (F8, F10, J7).
-#[tactic(auto, using(crate::proofs::NameLaws::names_name_failure_laws))]
+#[tactic(auto, using(crate::proofs::NameLaws::for_name_failure))]
 fn name_failure(table: &[u16], scope: Scope, limit: u16, t: Token, name: Packed) -> u16
     requires { 7 * scope.names ≤ length table.now }
     ensures { result ≡ name_failure (scope_of scope table.now) limit t (unpack name) }

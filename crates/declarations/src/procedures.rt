@@ -77,7 +77,7 @@ fn body(
 }
 
 // A procedure, after `.PROCEDURE`. Its name is declared again, over its entry of before, which drops the locals, and is known from then on.
-#[tactic(auto, using(crate::proofs::ParseLaws::procedures_procedure_laws, crate::proofs::NameLaws::procedures_procedure_laws, parser::proofs::ReadLaws::came, parser::proofs::ReadLaws::failed_as, crate::proofs::ProcedureLaws::procedures_procedure_laws))]
+#[tactic(auto, using(crate::proofs::ParseLaws::for_procedure, crate::proofs::NameLaws::for_procedure, parser::proofs::ReadLaws::came, parser::proofs::ReadLaws::failed_as, crate::proofs::ProcedureLaws::for_procedure))]
 pub fn procedure(
     source: &[u8],
     table: &mut [u16],

@@ -69,7 +69,7 @@ fn declaration(
 }
 
 // Any declarations, from the start.
-#[tactic(auto, using(parser::proofs::ReadLaws::turn_zero, parser::proofs::ReadLaws::turn_none, parser::proofs::ReadLaws::turn_failed, parser::proofs::ReadLaws::turn_next, crate::proofs::AllocationLaws::program_declarations_laws, crate::proofs::FormLaws::program_declarations_laws))]
+#[tactic(auto, using(parser::proofs::ReadLaws::turn_zero, parser::proofs::ReadLaws::turn_none, parser::proofs::ReadLaws::turn_failed, parser::proofs::ReadLaws::turn_next, crate::proofs::AllocationLaws::for_declarations, crate::proofs::FormLaws::for_declarations))]
 fn declarations(
     source: &[u8],
     table: &mut [u16],

@@ -17,7 +17,7 @@ use source::Token;
 use source::kind::SEMICOLON;
 
 // A pool's words from an address on.
-#[tactic(auto, using(crate::proofs::AllocationLaws::sectors_store_pool_laws, emitter::proofs::EmittedPools::counted), unfolding(layout::specs::Emission::stored))]
+#[tactic(auto, using(crate::proofs::AllocationLaws::for_store_pool, emitter::proofs::EmittedPools::counted), unfolding(layout::specs::Emission::stored))]
 pub fn store_pool(image: &mut [u16], at: u16, pool: Pool)
     ensures { image.new ≡ stored image.old at (literals_in pool) }
 {

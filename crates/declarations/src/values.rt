@@ -15,7 +15,7 @@ use source::kind::{COMMA, LEFT_PARENTHESIS, RIGHT_PARENTHESIS};
 use source::token_at;
 
 // Zeros from an address on.
-#[tactic(auto, using(crate::proofs::AllocationLaws::values_fill_laws), unfolding(layout::specs::Emission::stored))]
+#[tactic(auto, using(crate::proofs::AllocationLaws::for_fill), unfolding(layout::specs::Emission::stored))]
 fn fill(image: &mut [u16], at: usize, count: usize)
     requires { at + count ≤ 65536 }
     ensures { image.new ≡ stored image.old at (replicate count 0) }
@@ -55,7 +55,7 @@ fn initial_value(
 }
 
 // Initial values separated by commas, stored from an address on.
-#[tactic(auto, using(crate::proofs::ParseLaws::values_values_laws, parser::proofs::ReadLaws::list_first, parser::proofs::ReadLaws::list_failed, parser::proofs::ReadLaws::list_zero, parser::proofs::ReadLaws::list_last, parser::proofs::ReadLaws::list_next, parser::proofs::ReadLaws::failed_as, crate::proofs::ArrayLaws::values_values_laws))]
+#[tactic(auto, using(crate::proofs::ParseLaws::for_values, parser::proofs::ReadLaws::list_first, parser::proofs::ReadLaws::list_failed, parser::proofs::ReadLaws::list_zero, parser::proofs::ReadLaws::list_last, parser::proofs::ReadLaws::list_next, parser::proofs::ReadLaws::failed_as, crate::proofs::ArrayLaws::for_values))]
 fn values(
     source: &[u8],
     table: &[u16],

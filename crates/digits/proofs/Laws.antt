@@ -140,15 +140,3 @@ module _ {a b : List ℕ} {at r : ℕ} where
   pub minus : (w : ℕ) → 32768 ≤ w → Wrote a b at r ((45 ∷ []) ++ decimal (65536 - w)) → Wrote a b at r (signed w)
   unfolding signed
   minus w h p = rw (le-ltb w 32768 h) p
-
-pub ruleset decimal_digits_laws = (then, no_digits, last_digit, more_digits)
-
-pub ruleset columns_put_left_laws = (then, kept)
-
-pub ruleset columns_put_right_laws = (then, kept)
-
-pub ruleset columns_put_spaces_laws = (begins, goes_on, is_whole)
-
-pub ruleset put_signed_laws = (then, plus, minus)
-
-pub ruleset put_text_laws = (begins, goes_on, is_whole, next_byte)

@@ -141,6 +141,4 @@ pub right_shown : (w n : ℕ) → n < 10 ^ 20 → shown (right_in w n) ≡ some 
 unfolding right_in
 right_shown w n h = spaces_shown (w - length (decimal n)) (decimal n) ∙ decimal_shown 19 n h
 
-pub ruleset columns_decimal_length_laws = (one_digit, shorter)
-
-pub ruleset columns_put_spaces_laws = (next_space, no_space)
+pub ruleset for_decimal_length = (one_digit, shorter)

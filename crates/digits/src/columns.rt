@@ -33,7 +33,7 @@ pub fn put_left(out: &mut [u8], at: usize, width: usize, text: &[u8]) -> usize
 }
 
 // How many decimal digits a number has.
-#[tactic(auto, using(crate::proofs::Widths::columns_decimal_length_laws))]
+#[tactic(auto, using(crate::proofs::Widths::for_decimal_length))]
 fn decimal_length(n: usize) -> usize
     ensures { result ≡ length (decimal n) }
 {

@@ -64,6 +64,4 @@ module _ (p : List ℕ) (v i n : ℕ) (held : n ≡ length p) (place : i ≡ ind
 pub appended : (n : ℕ) (w : List ℕ) (v k : ℕ) → k ≡ length (take n w) → k < length w → take (k + 1) (set w k v) ≡ take n w ++ (v ∷ [])
 appended n w v k e h = rw add-one (take-suc-set w k v h ∙ ap (λ l. l ++ (v ∷ [])) (ap (λ j. take j w) e ∙ counted n w))
 
-pub ruleset index_of_laws = (found, passed, missed)
-
-pub ruleset with_literal_laws = (known, new, full, appended)
+pub ruleset for_index_of = (found, passed, missed)

@@ -128,19 +128,3 @@ module _ {b : Bases} {o r : Output} {i j : List ℕ} where
   pub emits_stop : Puts o i r j halt_word → Emits b o i r j (Sym.stop ∷ [])
   unfolding literal_of
   emits_stop p = emits_word Sym.stop refl (stop_word b (emitted_by o i)) p
-
-pub ruleset emit_above_laws = (emits_then, emits_generic, emits_saved, emits_stop)
-
-pub ruleset emit_below_laws = (emits_then, emits_generic, emits_saved, emits_stop)
-
-pub ruleset emit_cell_laws = (emits_then)
-
-pub ruleset emit_instruction_laws = (emits_through)
-
-pub ruleset emit_load_laws = (emits_none)
-
-pub ruleset emit_memory_laws = (memory_word_lem, memory_literals)
-
-pub ruleset emit_reach_laws = (emits_then, emits_none)
-
-pub ruleset emit_subscript_test_laws = (emits_then)

@@ -81,7 +81,7 @@ pub fn held_count(pool: Pool) -> usize
 }
 
 // The place of a value in a pool, or how many words it holds.
-#[tactic(auto, using(crate::proofs::EmittedPools::index_of_laws))]
+#[tactic(auto, using(crate::proofs::EmittedPools::for_index_of))]
 fn index_of(pool: Pool, value: u16) -> usize
     ensures { (result ≡ index_of (literals_in pool) value) × (result ≤ sector_words) }
 {

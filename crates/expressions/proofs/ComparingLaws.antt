@@ -125,11 +125,3 @@ module _ (source : List ℕ) (names : Names) (expr : ℕ → Got Expr) (at : ℕ
   value_compared {n = n} z h q (fails i p w) =
       let v = came h q in
       fails (not_bare source names expr at t e z ∙ then_got _ v.is ∙ cond_from_lem source names v.tree (token_at source n) ∙ then_failed _ i) p (kept_then v.holds.kept w.0, w.1)
-
-pub ruleset condition_laws = (none_left, bare_read, value_failed, value_compared)
-
-pub ruleset comparing_comparison_laws = (none_left, relation_compared, test_read, no_comparison)
-
-pub ruleset comparing_related_laws = (related_failed, related_read)
-
-pub ruleset operators_operation_laws = (none_left)

@@ -242,15 +242,3 @@ module _ (source : List ℕ) (names : Names) (at : ℕ) (t : Token) (e : t ≡ t
   unfolding parse_expr
   is_chain zero n k = absurd (n refl)
   is_chain (suc left) n k = rw (← e, ne_eqb t.kind Kinds.IF k, sub_one left)
-
-pub ruleset bracketed_laws = (bracketed_closed)
-
-pub ruleset call_laws = (called_alone, call_failed, called_with)
-
-pub ruleset chain_laws = (unaries_upto, start_failed, term_failed, chained)
-
-pub ruleset choice_laws = (test_failed, then_missing, first_failed, chosen, from_state)
-
-pub ruleset expression_laws = (deep_part, is_choice, is_chain)
-
-pub ruleset term_laws = (begins_cell, begins_zero, begins_bracket, begins_call, begins_accumulator)

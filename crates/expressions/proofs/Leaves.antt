@@ -47,13 +47,3 @@ hole_later h = record { forward = λ f. rw h.at (hole f h.puts.emitted) }
 pub last_jump : {f : Bases} {a b : Emitted} {place : ℕ} (u : WordsAt) → Lays f a b (λ at. u at ⧺ Sym.jump 0 ∷ []) → (b.next < last_address → place ≡ a.next + length (u a.next)) → a.next ≤ place
     → ForwardJump f a b (λ at z. u at ⧺ Sym.jump z ∷ []) place
 last_jump u p e h = record { before = u; rest = λ _. []; cut = λ at z. refl; lays = p; place = e; inside = h }
-
-pub ruleset choice_laws = (hole_later)
-
-pub ruleset operators_shifted_laws = (shift)
-
-pub ruleset relation_emit_at_most_laws = (hole_later)
-
-pub ruleset relation_emit_greater_laws = (hole_later)
-
-pub ruleset relation_emit_test_laws = (generic, hole_later)

@@ -162,11 +162,3 @@ pub after_others : (source : List ℕ) (names : Names) {f : Bases} {a b c : Emit
     → Compiles f (λ o _. operation_words o) b c part g → Compiles f (λ os _. operations_words os) a c part (added source names os g)
 unfolding added
 after_others source names os p r = reads_as (snoc os) r refl refl (λ o q. same (λ at. operations_snoc os o) (sequence p q)) (kept_then p.kept)
-
-pub ruleset operators_emit_after_laws = (after_product, after_remainder, none_after)
-
-pub ruleset operators_emit_before_laws = (before_division, none_before)
-
-pub ruleset operators_operation_laws = (binary_turn, shift_turn, no_turn)
-
-pub ruleset operators_operations_laws = (turn_one, turn_last, more_none, more_some, after_others)

@@ -97,8 +97,4 @@ module _ {a b c d : Emitted} {past place : ℕ} {image : List ℕ} where
           let p = (k.forward f).place l in
           omega (arith, n, size, parts, p)
 
-pub ruleset relation_emit_at_most_laws = (at_most_lem)
-
-pub ruleset relation_emit_greater_laws = (greater)
-
-pub ruleset relation_emit_relation_laws = (same_kind, not_equal, less, equal, last_kind, at_least_lem)
+pub ruleset for_emit_relation = (same_kind, not_equal, less, equal, last_kind, at_least_lem)

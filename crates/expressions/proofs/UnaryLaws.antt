@@ -308,10 +308,8 @@ laid {a} {end} {image} us e n i =
           };
     }
 
-pub ruleset unaries_emit_unaries_laws = (past_end, laid)
+pub ruleset for_place_unaries = (none_stored, runs_out, stops, turns, room, still_room, places)
 
-pub ruleset unaries_place_unaries_laws = (none_stored, runs_out, stops, turns, room, still_room, places)
+pub ruleset for_unaries_end = (none_counted, runs_out, stops, turns, advances)
 
-pub ruleset unaries_unaries_end_laws = (none_counted, runs_out, stops, turns, advances)
-
-pub ruleset unaries_unaries_next_laws = (runs_out, stops, turns)
+pub ruleset for_unaries_next = (runs_out, stops, turns)

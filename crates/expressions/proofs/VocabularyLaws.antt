@@ -140,14 +140,12 @@ pub relation_in : (k : ℕ) → Kinds.equal ≤ k → k ≤ Kinds.at_least → 1
 unfolding relation_code
 relation_in k h l = rw (← relation_code_lem k, le-ltb k Kinds.equal h, le-ltb Kinds.at_least k l)
 
-pub ruleset vocabulary_bare_laws = (bare_number)
+pub ruleset for_bare = (bare_number)
 
-pub ruleset vocabulary_ranged_laws = (holds)
+pub ruleset for_relation = (relation_low, relation_high, relation_in)
 
-pub ruleset vocabulary_relation_laws = (relation_low, relation_high, relation_in)
+pub ruleset for_shift_word = (shift_number)
 
-pub ruleset vocabulary_shift_word_laws = (shift_number)
+pub ruleset for_test = (test_zero, test_other)
 
-pub ruleset vocabulary_test_laws = (test_zero, test_other)
-
-pub ruleset vocabulary_unary_laws = (unary_number)
+pub ruleset for_unary = (unary_number)

@@ -56,7 +56,7 @@ fn emit_at_most(image: &mut [u16], output: Output) -> JumpAnswer
 }
 
 // The words of a relation after its CAS, by its token's kind (W7).
-#[tactic(auto, using(crate::proofs::RelationLaws::relation_emit_relation_laws))]
+#[tactic(auto, using(crate::proofs::RelationLaws::for_emit_relation))]
 pub(crate) fn emit_relation(image: &mut [u16], output: Output, kind: u16) -> JumpAnswer
     ensures { DecidesRelation kind output image.old image.new result }
 {

@@ -13,7 +13,7 @@ use instruction::slot;
 use source::{kind, token_at};
 
 // The offset after them. The turns are counted, as in the definition: each word takes a byte or more.
-#[tactic(auto, using(crate::proofs::UnaryLaws::unaries_unaries_next_laws), unfolding(crate::specs::Chains::unaries_next))]
+#[tactic(auto, using(crate::proofs::UnaryLaws::for_unaries_next), unfolding(crate::specs::Chains::unaries_next))]
 pub fn unaries_next(source: &[u8], at: usize) -> usize
     ensures { result ≡ unaries_next source.now at }
 {
@@ -50,7 +50,7 @@ fn advance(at: u16, words: u16) -> u16
 }
 
 // The address after their instructions, up to the last.
-#[tactic(auto, using(crate::proofs::UnaryLaws::unaries_unaries_end_laws), unfolding(crate::specs::Chains::unaries_of))]
+#[tactic(auto, using(crate::proofs::UnaryLaws::for_unaries_end), unfolding(crate::specs::Chains::unaries_of))]
 fn unaries_end(source: &[u8], at: usize, start: u16) -> u16
     ensures { result ≡ min last_address (start + length (unary_words_at source.now at)) }
 {
@@ -85,7 +85,7 @@ fn place_unary(image: &mut [u16], at: usize, kind: u16, last: u16)
 }
 
 // Their instructions up to an address, from the end.
-#[tactic(auto, using(crate::proofs::UnaryLaws::unaries_place_unaries_laws), unfolding(crate::specs::Chains::unaries_of))]
+#[tactic(auto, using(crate::proofs::UnaryLaws::for_place_unaries), unfolding(crate::specs::Chains::unaries_of))]
 fn place_unaries(source: &[u8], image: &mut [u16], at: usize, end: u16)
     requires { length (unary_words_at source.now at) ≤ end }
     ensures { image.new ≡ placed_before end (unary_words_at source.now at) image.old }

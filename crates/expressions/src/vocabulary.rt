@@ -69,7 +69,7 @@ fn ranged(low: u16, high: u16, kind: u16) -> u16
 }
 
 // 1 more than the slot of a unary word's last instruction, or 0.
-#[tactic(auto, using(crate::proofs::VocabularyLaws::vocabulary_unary_laws))]
+#[tactic(auto, using(crate::proofs::VocabularyLaws::for_unary))]
 pub fn unary(kind: u16) -> u16
     ensures { result ≡ number_in unaries last_slot kind }
 {
@@ -77,7 +77,7 @@ pub fn unary(kind: u16) -> u16
 }
 
 // 1 more than a shift word's kind, or 0.
-#[tactic(auto, using(crate::proofs::VocabularyLaws::vocabulary_shift_word_laws))]
+#[tactic(auto, using(crate::proofs::VocabularyLaws::for_shift_word))]
 pub fn shift_word(kind: u16) -> u16
     ensures { result ≡ number_in shifts shift_kind kind }
 {
@@ -85,7 +85,7 @@ pub fn shift_word(kind: u16) -> u16
 }
 
 // 1 more than the slot of a test that stands alone, or 0.
-#[tactic(auto, using(crate::proofs::VocabularyLaws::vocabulary_bare_laws))]
+#[tactic(auto, using(crate::proofs::VocabularyLaws::for_bare))]
 pub fn bare(kind: u16) -> u16
     ensures { result ≡ number_in bares bare_slot kind }
 {
@@ -93,7 +93,7 @@ pub fn bare(kind: u16) -> u16
 }
 
 // 1 more than the slot of a single test, or 0.
-#[tactic(auto, using(crate::proofs::VocabularyLaws::vocabulary_test_laws))]
+#[tactic(auto, using(crate::proofs::VocabularyLaws::for_test))]
 pub fn test(kind: u16) -> u16
     ensures { result ≡ number_in tests test_slot kind }
 {
@@ -128,7 +128,7 @@ pub fn operator(kind: u16) -> u16
 }
 
 // 1 for a relation, else 0.
-#[tactic(auto, using(crate::proofs::VocabularyLaws::vocabulary_relation_laws))]
+#[tactic(auto, using(crate::proofs::VocabularyLaws::for_relation))]
 pub fn relation(kind: u16) -> u16
     ensures { result ≡ number_in relations (λ _. 0) kind }
 {

@@ -99,12 +99,6 @@ no_visible text i h = rw (drop_of_length-le text h)
 pub line_bytes : (s : List ℕ) (from : ℕ) {end : ℕ} → end ≡ from + line_length (drop from s) → take (end - from) (drop from s) ≡ line_from s from
 line_bytes s from {end} e = let n : end - from ≡ line_length (drop from s) = omega (arith, e) in ap (λ k. take k (drop from s)) n
 
-pub ruleset place_line_end_laws = (ends_here, ends_behind, ends_last)
+pub ruleset for_line_end = (ends_here, ends_behind, ends_last)
 
-pub ruleset place_line_start_laws = (begins_here, begins_before, begins_first, newline_inside)
-
-pub ruleset put_line_laws = (line_bytes)
-
-pub ruleset visible_put_visible_laws = (next_visible, no_visible)
-
-pub ruleset words_put_words_laws = (no_words_lem)
+pub ruleset for_line_start = (begins_here, begins_before, begins_first, newline_inside)

@@ -24,7 +24,7 @@ fn newlines_before(source: &[u8], at: usize) -> usize
 }
 
 // Where the line of an offset begins: behind the newline before it, or at 0.
-#[tactic(auto, using(crate::proofs::Laws::place_line_start_laws))]
+#[tactic(auto, using(crate::proofs::Laws::for_line_start))]
 pub fn line_start(source: &[u8], at: usize) -> usize
     ensures { (result ≡ line_start source.now at) × (result ≤ at) × (result ≤ length source.now) }
 {
@@ -51,7 +51,7 @@ pub fn column(source: &[u8], at: usize) -> usize
 }
 
 // Where the line that begins at an offset ends: at its newline, or with the source.
-#[tactic(auto, using(crate::proofs::Laws::place_line_end_laws))]
+#[tactic(auto, using(crate::proofs::Laws::for_line_end))]
 pub fn line_end(source: &[u8], from: usize) -> usize
     requires { from ≤ length source.now }
     ensures { (result ≡ from + line_length (drop from source.now)) × (from ≤ result) × (result ≤ length source.now) }

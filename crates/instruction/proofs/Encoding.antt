@@ -268,4 +268,4 @@ unknown_exactly w h = record {
 pub agreement : Agreement
 agreement = record { encoded = encoded; known = known; unknown_exactly = unknown_exactly; decoder = decode_same; slots = slots }
 
-pub ruleset table_laws_laws = (agreement)
+pub ruleset for_table_laws = (agreement)

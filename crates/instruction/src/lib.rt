@@ -192,7 +192,7 @@ pub fn encode_shift(kind: u16, amount: u16) -> u16
 }
 
 // The decoder and the instruction set agree: this function carries the theorem as its contract.
-#[tactic(auto, using(crate::proofs::Encoding::table_laws_laws))]
+#[tactic(auto, using(crate::proofs::Encoding::for_table_laws))]
 pub fn table_laws()
     ensures { Agreement }
 {}

@@ -51,6 +51,6 @@ address_below image p indirect tag sector address h l =
     follow_below image 16 _ indirect
     (indexed_below (base_of p sector address) (get_or image 0 0) tag (cond_all (λ (k : ℕ). k < 16384) sector (omega arith) (omega arith)))
 
-pub ruleset address_follow_laws = (follow_end, follow_long, follow_more)
+pub ruleset for_follow = (follow_end, follow_long, follow_more)
 
-pub ruleset step_step_laws = (follow_below)
+pub ruleset for_step = (follow_below)

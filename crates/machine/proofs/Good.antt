@@ -69,6 +69,6 @@ pub step_failed : (image l : List ℕ) (x : Step) {f : ℕ} → stepped_of x ≡
 step_failed image l (made t) {f} e d = (cc, cc)
 step_failed image l (failed g) {f} e d = (cc, cc)
 
-pub ruleset make_steps_laws = (step_good, step_made, step_failed)
+pub ruleset for_make_steps = (step_good, step_made, step_failed)
 
-pub ruleset step_step_laws = (step_of)
+pub ruleset for_step = (step_of)

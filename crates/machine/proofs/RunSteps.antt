@@ -61,4 +61,4 @@ pub run_ended : (b i : ℕ) (w : Work) (s₀ s : State) {o : Outcome} → run_fr
     → run_from b s₀ ≡ ran w o s
 run_ended b i w s₀ s {o} r e = r ∙ ap (more w) e ∙ ap (λ (u : Work). ran u o s) (add_work_none w)
 
-pub ruleset make_steps_laws = (run_halted, run_spent, run_failed, run_start, run_onward, run_ended)
+pub ruleset for_make_steps = (run_halted, run_spent, run_failed, run_start, run_onward, run_ended)

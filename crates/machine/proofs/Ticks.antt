@@ -30,4 +30,4 @@ counts_after q (suc n) k l h =
     ∙ ap (λ (v : ℕ). set k.counts i (tick v)) (get_or-set_same k.counts i ((m + n) % 2 ^ 32) 0 l)
     ∙ ap (set k.counts i) (added_one m n)
 
-pub ruleset clock_after_laws = (common_after, counts_after)
+pub ruleset for_clock_after = (common_after, counts_after)

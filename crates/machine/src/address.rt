@@ -37,7 +37,7 @@ pub fn indexed(image: &[u16], at: u16, tag: bool) -> u16
 }
 
 // The effective address, after at most 16 indirect words.
-#[tactic(auto, using(crate::proofs::Chains::address_follow_laws))]
+#[tactic(auto, using(crate::proofs::Chains::for_follow))]
 pub fn follow(image: &[u16], indirect: bool, at: u16) -> Address
     requires { (length image.now ≡ 16384) × (at < 16384) }
     ensures { result ≡ follow_of image.now 16 indirect at }

@@ -76,7 +76,7 @@ pub fn start_clock() -> Clock
 }
 
 // The clock record after so many steps of a run.
-#[tactic(auto, using(crate::proofs::Ticks::clock_after_laws))]
+#[tactic(auto, using(crate::proofs::Ticks::for_clock_after))]
 fn clock_after(request: Request, steps: u32, clock: Clock) -> Clock
     requires { request.cooperative < cooperatives }
     ensures { result ≡ spend_many request steps clock }
@@ -114,7 +114,7 @@ fn refused(number: u16, m: Machine, clock: Clock) -> Report
 }
 
 // Up to the budget's steps, on an image of the right length with P in it, for a cooperative that has a count.
-#[tactic(auto, using(crate::proofs::Good::make_steps_laws, crate::proofs::RunSteps::make_steps_laws))]
+#[tactic(auto, using(crate::proofs::Good::for_make_steps, crate::proofs::RunSteps::for_make_steps))]
 fn make_steps(image: &mut [u16], m: Machine, clock: Clock, request: Request) -> Report
     requires { (length image.old ≡ 16384) × (m.p < 16384) × (request.cooperative < cooperatives) }
     ensures { Reports request clock (run_from request.budget (state m image.old)) result image.new }

@@ -96,7 +96,7 @@ fn generic(m: Machine, slot: usize) -> Machine
     advance(m, effect::unary(slot, r), skipped)
 }
 
-#[tactic(auto, using(instruction::proofs::Proper::decode_proper, instruction::proofs::Rows::decode_with, crate::proofs::Chains::step_step_laws, crate::proofs::Good::step_step_laws))]
+#[tactic(auto, using(instruction::proofs::Proper::decode_proper, instruction::proofs::Rows::decode_with, crate::proofs::Chains::for_step, crate::proofs::Good::for_step))]
 pub fn step(table: &[u16; slot::COUNT], image: &mut [u16], m: Machine) -> Stepped
     requires { (table.now ≡ table_of) × (length image.old ≡ 16384) × (m.p < 16384) }
     ensures { Makes image.old (step_def (state m image.old)) result image.new }

@@ -26,7 +26,3 @@ one_more_first d s j h l = ap (λ (k : ℕ). set (paste d 0 s j) k (get_or s j 0
 pub behind_first : (d : List ℕ) (v : ℕ) (s : List ℕ) → 0 < length d → take 1 (set d 0 v) ++ s ≡ v ∷ s
 behind_first [] v s h = absurd (omega (arith, h))
 behind_first (x ∷ d) v s h = refl
-
-pub ruleset clock_of_laws = (copied, one_more_first)
-
-pub ruleset put_clock_laws = (copied, one_more, behind_first)

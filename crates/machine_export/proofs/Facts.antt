@@ -20,5 +20,3 @@ fitting n e =
       report = eqb-true _ _ sizes.1;
       words = record { a = leb-true _ _ registers.0; b = leb-true _ _ registers.1; p = leb-true _ _ words.1 };
     }
-
-pub ruleset machine_run_laws = (fitting)

@@ -82,7 +82,7 @@ either {R = R} {a = a} s {t} f g h = go (Memᴰ.append_cases s h)
 module _ (p : Program) {A : Type 0} (cells : Id → Item → List A) (elements : ℕ → ℕ → List A) (Q : A → Type 0)
     (nothing : (i : Id) (v : ℕ) (a : A) → Memᴰ a (cells i (Item.compconstant v)) → ⊥)
     (of_item : (i : Id) (item : Item) (a : A) → Memᴰ a (cells i item) → (at : ℕ) → at < 16384 → map_at p at ≡ get_or (item_words i item) 0 Role.free → Q a)
-    (of_Array : (st : Allocation) (ks : List Kind) (ds : List Declaration) (m : List Role) (name : Name) (size : ℕ) (checked : Bool) (values : List ℕ)
+    (of_array : (st : Allocation) (ks : List Kind) (ds : List Declaration) (m : List Role) (name : Name) (size : ℕ) (checked : Bool) (values : List ℕ)
     → Here p st ks (Declaration.array name size checked values ∷ ds) m → (a : A) → Memᴰ a (elements st.scope.taken size) → Q a)
   where
     -- which of a procedure's local words, from the nth on, something is listed for
@@ -164,7 +164,7 @@ module _ (p : Program) {A : Type 0} (cells : Id → Item → List A) (elements :
         either (cells (Id.global n) (Item.compconstant v)) (λ x. absurd (nothing (Id.global n) v a x))
         (further (Declaration.item name (Item.compconstant v)) ds (everything ds) st ks m h (n + 0) (omega arith) a) k
     everything (Declaration.array name size checked values ∷ ds) st ks m h n e a k =
-        either (elements n size) (λ x. of_Array st ks ds m name size checked values h a (subst (λ (j : ℕ). Memᴰ a (elements j size)) e x))
+        either (elements n size) (λ x. of_array st ks ds m name size checked values h a (subst (λ (j : ℕ). Memᴰ a (elements j size)) e x))
         (further (Declaration.array name size checked values) ds (everything ds) st ks m h (suc n) (omega arith) a) k
     everything (Declaration.procedure name accumulator locals body ∷ ds) st ks m h n e a k =
         either (locals_by cells n 0 locals) (of_procedure st ks ds m name accumulator locals body h n e a)

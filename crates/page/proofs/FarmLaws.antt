@@ -155,6 +155,4 @@ no_lines total [] ls h = refl
 no_lines total (n ∷ ns) [] h = refl
 no_lines total (n ∷ ns) (l ∷ ls) h = absurd (omega (arith, h))
 
-pub ruleset judge_laws = (name_at_lem)
-
-pub ruleset put_lines_laws = (next, no_lines)
+pub ruleset for_judge = (name_at_lem)

@@ -250,6 +250,6 @@ answer_number names litres room f e = go (failure_of names litres room) (failure
     go (some g) h q = rw (ap number_in q) at h
     go none h q = absurd (false≢true (sym (ap is_made q)))
 
-pub ruleset judge_laws = (judging_starts, farm_failed, passed, judging_on, names_left, litres_left, none_left)
+pub ruleset for_judge = (judging_starts, farm_failed, passed, judging_on, names_left, litres_left, none_left)
 
-pub ruleset page_laws = (fit, lines_written, none_written)
+pub ruleset for_page = (fit, lines_written, none_written)

@@ -116,5 +116,3 @@ splits (b ∷ bs) = go (eqb b 10) (splits bs)
     go : (t : Bool) → Splits bs (names_of bs) → Splits (b ∷ bs) (whether t (λ _. record { text = []; ended = true } ∷ names_of bs) (λ _. before b (names_of bs)))
     go true p = λ e. record { text = refl; others = refl; inside = omega arith }
     go false p = byte_splits b bs (names_of bs) p
-
-pub ruleset name_length_laws = (scan_first, scan_newline, scan_stopped, scan_passed, scan_ended)

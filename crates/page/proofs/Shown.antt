@@ -75,5 +75,3 @@ failed names litres output f output' called =
     let kept = called.written ∙ sym (none_written names litres output f (sym called.answered)) in
     let number = answer_number names litres (length output) f (sym called.answered) in
     (number.0, number.1, kept)
-
-pub ruleset page_laws_laws = (made, failed)

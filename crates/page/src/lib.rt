@@ -85,7 +85,7 @@ fn fitted(farms: usize, room: usize) -> Answer
 }
 
 // First each farm that has a name and litres, then the lists (J14).
-#[tactic(auto, using(crate::proofs::FarmLaws::judge_laws, crate::proofs::Judging::judge_laws))]
+#[tactic(auto, using(crate::proofs::FarmLaws::for_judge, crate::proofs::Judging::for_judge))]
 fn judge(names: &[u8], litres: &[u16], room: usize) -> Answer
     ensures { result ≡ answer_of names.now litres.now room }
 {
@@ -144,7 +144,7 @@ fn put_lines(out: &mut [u8], names: &[u8], litres: &[u16]) -> usize
 }
 
 // Makes the page at the start of the output; where it fails, the output stays as it was (B5).
-#[tactic(auto, using(crate::proofs::Judging::page_laws))]
+#[tactic(auto, using(crate::proofs::Judging::for_page))]
 pub fn page(names: &[u8], litres: &[u16], output: &mut [u8]) -> Answer
     ensures { PageCalled names.now litres.now output.old result output.new }
 {

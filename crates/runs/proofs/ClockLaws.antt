@@ -179,5 +179,3 @@ clock_laws k f = record {
   calls = λ s. (served f s).0;
   called = λ asked. called asked k;
 }
-
-pub ruleset clock_laws_laws = (clock_laws)

@@ -35,4 +35,4 @@ run_laws = record {
   all_made = all_made;
 }
 
-pub ruleset run_laws_laws = (run_laws)
+pub ruleset for_run_laws = (run_laws)

@@ -8,7 +8,7 @@ ghost use Rattle.runs.specs.RunLaws.{RunLaws};
 
 use machine::{Clock, Machine, Report, Request, run};
 
-#[tactic(auto, using(crate::proofs::RunLaws::run_laws_laws))]
+#[tactic(auto, using(crate::proofs::RunLaws::for_run_laws))]
 pub fn run_laws()
     ensures { RunLaws }
 {}

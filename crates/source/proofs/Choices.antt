@@ -70,10 +70,6 @@ pub after : (f : List ℕ → ℕ → Token) (s : List ℕ) (at i : ℕ) → i �
 unfolding after_blanks
 after f s at i e = rw (drop-drop, ← e)
 
-pub ruleset operator_at_laws = (after)
+pub ruleset for_operator_of = (operator_ended, minus, other)
 
-pub ruleset operator_of_laws = (operator_ended, minus, other)
-
-pub ruleset token_at_laws = (after)
-
-pub ruleset token_of_laws = (ended, name, decimal, negative, octal, keyword, sign)
+pub ruleset for_token_of = (ended, name, decimal, negative, octal, keyword, sign)

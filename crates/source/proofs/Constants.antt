@@ -71,8 +71,8 @@ module _ (s : List ℕ) (at next : ℕ) (none : next ≡ at + 1) where
   unfolding octal_token
   quote_alone e = rw (eq-eqb (span is_octal_digit (drop (at + 1) s)) 0 (omega arith), none)
 
-pub ruleset constant_decimal_at_laws = (decimal)
+pub ruleset for_decimal_at = (decimal)
 
-pub ruleset constant_negative_at_laws = (negative, minus_alone)
+pub ruleset for_negative_at = (negative, minus_alone)
 
-pub ruleset constant_octal_at_laws = (octal, quote_alone)
+pub ruleset for_octal_at = (octal, quote_alone)

@@ -108,10 +108,10 @@ whole s at next kind e q =
     let n : at + suc (keyword_length (drop (at + 1) s)) ≡ next = omega arith in
     rw (q, w, n)
 
-pub ruleset keyword_digit_end_laws = (one_digit, other_byte, no_byte)
+pub ruleset for_digit_end = (one_digit, other_byte, no_byte)
 
-pub ruleset keyword_keyword_at_laws = (whole)
+pub ruleset for_keyword_at = (whole)
 
-pub ruleset keyword_keyword_end_laws = (sense, letters_only)
+pub ruleset for_keyword_end = (sense, letters_only)
 
-pub ruleset keyword_keyword_kind_laws = (in_order, in_letters, letters_of, from_first, found, next, none)
+pub ruleset for_keyword_kind = (in_order, in_letters, letters_of, from_first, found, next, none)

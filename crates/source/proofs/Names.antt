@@ -24,4 +24,4 @@ module _ (s : List ℕ) (t : Token) (i : ℕ) where
   unfolding name_of
   byte_of l h = rw (get_or-take 6 (spelling s t) i 0 l, get_or-take (t.next - t.at) (drop t.at s) i 0 h, get_or-drop)
 
-pub ruleset byte_name_byte_laws = (seventh, past_end, byte_of)
+pub ruleset for_name_byte = (seventh, past_end, byte_of)

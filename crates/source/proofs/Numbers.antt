@@ -39,4 +39,4 @@ pub done : (base : ℕ) (s : List ℕ) (i to n : ℕ) → to ≤ i → to ≤ le
 unfolding number
 done base s i to n h k = let l : length (take to s) ≤ i = omega (arith, length-take-le to s k) in rw (drop_of_length-le (take to s) l)
 
-pub ruleset number_number_of_laws = (next, done)
+pub ruleset for_number_of = (next, done)

@@ -46,4 +46,4 @@ equal (x ∷ a) (y ∷ b) t = go (eqb x y) refl (equal a b) t
     go true e f t = let h = eqb-true x y e in let r = f t in cc
     go false e f t = absurd t
 
-pub ruleset keyword_same_laws = (lengths, on, differ, ended)
+pub ruleset for_same = (lengths, on, differ, ended)

@@ -136,6 +136,6 @@ none b c n1 n2 n3 n4 n5 n6 n7 n8 n9 n10 n11 n12 n13 n14 =
     differs : (x : ℕ) → (b ≡ x → ⊥) → eqb x b ≡ false
     differs x n = ne_eqb x b (λ q. n (sym q))
 
-pub ruleset sign_sign_at_laws = (moved, fits)
+pub ruleset for_sign_at = (moved, fits)
 
-pub ruleset sign_sign_of_laws = (none)
+pub ruleset for_sign_of = (none)

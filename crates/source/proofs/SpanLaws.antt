@@ -36,12 +36,12 @@ most p (b ∷ bs) = go (p b) (most p bs)
 pub within : (p : ℕ → Bool) (s : List ℕ) (i : ℕ) → i ≤ length s → i + span p (drop i s) ≤ length s
 within p s i h = omega (arith, most p (drop i s), length-drop i s)
 
-pub ruleset constant_decimal_at_laws = (within)
+pub ruleset for_decimal_at = (within)
 
-pub ruleset constant_negative_at_laws = (within)
+pub ruleset for_negative_at = (within)
 
-pub ruleset constant_octal_at_laws = (within)
+pub ruleset for_octal_at = (within)
 
-pub ruleset keyword_keyword_end_laws = (within)
+pub ruleset for_keyword_end = (within)
 
-pub ruleset span_span_end_laws = (on, stops, ends)
+pub ruleset for_span_end = (on, stops, ends)

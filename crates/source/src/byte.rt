@@ -22,7 +22,7 @@ pub fn byte_at(source: &[u8], at: usize) -> u8
 }
 
 // A byte of a name, of which the first six count (T7); 0 past its end.
-#[tactic(auto, using(crate::proofs::Names::byte_name_byte_laws))]
+#[tactic(auto, using(crate::proofs::Names::for_name_byte))]
 pub fn name_byte(source: &[u8], name: Token, i: usize) -> u8
     ensures { result ≡ get_or (name_of source.now name) i 0 }
 {

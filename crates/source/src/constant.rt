@@ -28,7 +28,7 @@ fn constant(n: u32, limit: u32, word: u32, at: usize, next: usize) -> Token
 }
 
 // From its first digit on.
-#[tactic(auto, using(crate::proofs::SpanLaws::constant_decimal_at_laws, crate::proofs::Constants::constant_decimal_at_laws))]
+#[tactic(auto, using(crate::proofs::SpanLaws::for_decimal_at, crate::proofs::Constants::for_decimal_at))]
 pub fn decimal_at(source: &[u8], at: usize) -> Token
     requires { at ≤ length source.now }
     ensures { result ≡ decimal_token (drop at source.now) at }
@@ -39,7 +39,7 @@ pub fn decimal_at(source: &[u8], at: usize) -> Token
 }
 
 // From its minus on, which is the sign where no digit follows.
-#[tactic(auto, using(crate::proofs::SpanLaws::constant_negative_at_laws, crate::proofs::Constants::constant_negative_at_laws))]
+#[tactic(auto, using(crate::proofs::SpanLaws::for_negative_at, crate::proofs::Constants::for_negative_at))]
 pub fn negative_at(source: &[u8], at: usize) -> Token
     requires { at < length source.now }
     ensures { result ≡ negative_token (drop (at + 1) source.now) at }
@@ -59,7 +59,7 @@ pub fn negative_at(source: &[u8], at: usize) -> Token
 }
 
 // From its quote on, which is the sign where no octal digit follows.
-#[tactic(auto, using(crate::proofs::SpanLaws::constant_octal_at_laws, crate::proofs::Constants::constant_octal_at_laws))]
+#[tactic(auto, using(crate::proofs::SpanLaws::for_octal_at, crate::proofs::Constants::for_octal_at))]
 pub fn octal_at(source: &[u8], at: usize) -> Token
     requires { at < length source.now }
     ensures { result ≡ octal_token (drop (at + 1) source.now) at }

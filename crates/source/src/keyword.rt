@@ -16,7 +16,7 @@ const STARTS: [usize; 55] = [
     194, 197, 201, 205, 209, 215, 221, 227, 233, 239, 244, 247, 254,
 ];
 
-#[tactic(auto, using(crate::proofs::Same::keyword_same_laws))]
+#[tactic(auto, using(crate::proofs::Same::for_same))]
 fn same(a: &[u8], b: &[u8]) -> bool
     ensures { result ≡ same_bytes a.now b.now }
 {
@@ -42,7 +42,7 @@ fn same_part(keyword: &[u8], letters: &[u8], from: usize, to: usize) -> bool
 }
 
 // What is not in the table carries a failure, as an unknown byte does. The tables are made once, ahead of the loop.
-#[tactic(auto, using(crate::proofs::KeywordLaws::keyword_keyword_kind_laws))]
+#[tactic(auto, using(crate::proofs::KeywordLaws::for_keyword_kind))]
 fn keyword_kind(keyword: &[u8]) -> u16
     ensures { result ≡ keyword_kind keyword.now }
 {
@@ -64,7 +64,7 @@ fn keyword_kind(keyword: &[u8]) -> u16
 }
 
 // After one digit, if there is one.
-#[tactic(auto, using(crate::proofs::KeywordLaws::keyword_digit_end_laws))]
+#[tactic(auto, using(crate::proofs::KeywordLaws::for_digit_end))]
 fn digit_end(source: &[u8], at: usize) -> usize
     requires { at ≤ length source.now }
     ensures { (result ≡ at + span is_digit (take 1 (drop at source.now))) × (result ≤ length source.now) }
@@ -78,7 +78,7 @@ fn digit_end(source: &[u8], at: usize) -> usize
 }
 
 // Letters, and after `SENSE` one digit.
-#[tactic(auto, using(crate::proofs::SpanLaws::keyword_keyword_end_laws, crate::proofs::KeywordLaws::keyword_keyword_end_laws))]
+#[tactic(auto, using(crate::proofs::SpanLaws::for_keyword_end, crate::proofs::KeywordLaws::for_keyword_end))]
 fn keyword_end(source: &[u8], from: usize) -> usize
     requires { from ≤ length source.now }
     ensures { (result ≡ from + keyword_length (drop from source.now)) × (result ≤ length source.now) }
@@ -91,7 +91,7 @@ fn keyword_end(source: &[u8], from: usize) -> usize
 }
 
 // From its point on.
-#[tactic(auto, using(crate::proofs::KeywordLaws::keyword_keyword_at_laws))]
+#[tactic(auto, using(crate::proofs::KeywordLaws::for_keyword_at))]
 pub fn keyword_at(source: &[u8], at: usize) -> Token
     requires { at < length source.now }
     ensures { result ≡ keyword_token (drop (at + 1) source.now) at }

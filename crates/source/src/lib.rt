@@ -24,7 +24,7 @@ pub struct Token {
 }
 
 // The token whose first byte is at an offset.
-#[tactic(auto, using(crate::proofs::Choices::token_of_laws))]
+#[tactic(auto, using(crate::proofs::Choices::for_token_of))]
 fn token_of(source: &[u8], at: usize) -> Token
     ensures { result ≡ token_of (drop at source.now) at }
 {
@@ -58,7 +58,7 @@ fn token_of(source: &[u8], at: usize) -> Token
 }
 
 // The same where a minus is the operator.
-#[tactic(auto, using(crate::proofs::Choices::operator_of_laws))]
+#[tactic(auto, using(crate::proofs::Choices::for_operator_of))]
 fn operator_of(source: &[u8], at: usize) -> Token
     ensures { result ≡ operator_of (drop at source.now) at }
 {

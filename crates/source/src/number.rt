@@ -24,7 +24,7 @@ fn grown(n: u32, base: u32, b: u8) -> u32
 }
 
 // The number of the digits from one offset up to another.
-#[tactic(auto, using(crate::proofs::Numbers::number_number_of_laws))]
+#[tactic(auto, using(crate::proofs::Numbers::for_number_of))]
 pub fn number_of(source: &[u8], from: usize, to: usize, base: u32) -> u32
     requires { (to ≤ length source.now) × (0 < base) × (base ≤ 10) }
     ensures { (result ≡ min (number base 0 (slice from to source.now)) 65536) × (result ≤ 65536) }

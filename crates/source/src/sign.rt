@@ -40,7 +40,7 @@ fn greater(second: u8) -> Token
 }
 
 // The sign that two bytes begin with, as if it stood at offset 0.
-#[tactic(auto, using(crate::proofs::Signs::sign_sign_of_laws))]
+#[tactic(auto, using(crate::proofs::Signs::for_sign_of))]
 fn sign_of(first: u8, second: u8) -> Token
     ensures { result ≡ sign_token (first ∷ second ∷ []) 0 }
 {
@@ -63,7 +63,7 @@ fn sign_of(first: u8, second: u8) -> Token
     }
 }
 
-#[tactic(auto, using(crate::proofs::Signs::sign_sign_at_laws))]
+#[tactic(auto, using(crate::proofs::Signs::for_sign_at))]
 pub fn sign_at(source: &[u8], at: usize) -> Token
     requires { at < length source.now }
     ensures { result ≡ sign_token (drop at source.now) at }

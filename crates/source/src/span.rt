@@ -45,7 +45,7 @@ pub fn is_in(class: Class, b: u8) -> bool
 }
 
 // The offset after the span; past the end of the source it is empty.
-#[tactic(auto, using(crate::proofs::SpanLaws::span_span_end_laws))]
+#[tactic(auto, using(crate::proofs::SpanLaws::for_span_end))]
 pub fn span_end(source: &[u8], at: usize, class: Class) -> usize
     ensures { result ≡ at + span (passes class) (drop at source.now) }
 {

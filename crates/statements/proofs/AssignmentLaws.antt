@@ -77,6 +77,4 @@ module _ {f : Bases} {a b : Emitted} {part : Part} (source : List ℕ) (names : 
       go true (failed k o) c = refail c
       go false g c = relabel (Term.call p) (Stmt.call p) (λ l. l) c
 
-pub ruleset form_laws = (stored_as, to_a_lem, to_x, called)
-
-pub ruleset assignment_element_laws = (stored_as)
+pub ruleset for_form = (stored_as, to_a_lem, to_x, called)

@@ -114,10 +114,10 @@ module _ {f : Bases} {a d : Emitted} {hole : ℕ} (part : Cond × Stmt) (p : For
         words_are : (at : ℕ) → branch_words (guarded_words part) (stmt_words t) at ≡ stmt_words (Stmt.if c s t) at
         words_are at = rw (guarded_end part at, ends.stmt_end_lem t (suc (stmt_end s (cond_end c at)))) (lays.append_assoc (cond_words c at _) (stmt_words s (cond_end c at)) _)
 
-pub ruleset guarded_laws = (guarded_as, after_test, guards)
+pub ruleset for_guarded = (guarded_as, after_test, guards)
 
-pub ruleset if_statement_laws = (if_as, after_test, first_kept, if_lays)
+pub ruleset for_if_statement = (if_as, after_test, first_kept, if_lays)
 
-pub ruleset when_statement_laws = (when_lays)
+pub ruleset for_when_statement = (when_lays)
 
-pub ruleset while_statement_laws = (while_lays)
+pub ruleset for_while_statement = (while_lays)

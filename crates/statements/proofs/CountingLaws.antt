@@ -165,6 +165,4 @@ module _ {f : Bases} {a b d g e : Emitted} (h : Head) (s : Stmt) where
       looped : Lays f b e (λ at. stmt_words s at ⧺ last_words h at)
       looped = lays.same_here {v = λ at. stmt_words s at ⧺ last_words h at} refl (lays.sequence q counted)
 
-pub ruleset for_statement_laws = (for_as, for_lays)
-
-pub ruleset counting_for_head_laws = (head_hash, head_integer, head_refused, heads, no_head)
+pub ruleset for_for_statement = (for_as, for_lays)

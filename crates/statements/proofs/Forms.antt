@@ -50,14 +50,6 @@ module _ {f : Bases} {a b c : Emitted} where
 pub just_words : {f : Bases} {a b : Emitted} (ws : List Sym) → b ≡ emit_all f a ws → Lays f a b (λ _. ws)
 just_words ws e = rw e (lays.words ws)
 
-pub ruleset compound_laws = (follow)
+pub ruleset for_compound = (follow)
 
-pub ruleset for_statement_laws = (follow)
-
-pub ruleset assignment_assigned_laws = (from_got)
-
-pub ruleset assignment_element_laws = (from_got)
-
-pub ruleset assignment_set_x_laws = (from_got, just_words)
-
-pub ruleset assignment_store_laws = (then_words)
+pub ruleset for_for_statement = (follow)

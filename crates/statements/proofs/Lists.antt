@@ -59,6 +59,6 @@ listed_next stmt i none l r = reads_as Stmts.one r refl refl (λ s m. lays.same 
 listed_next stmt i (some ss) l r =
     reads_as (Stmts.more ss) r refl refl (λ s m. lays.same (λ at. ap (λ n. stmts_words ss at ⧺ stmt_words s n) (ends.stmts_end_lem ss at)) (lays.sequence l m)) (lays.kept_then l.kept)
 
-pub ruleset compound_laws = (compounded)
+pub ruleset for_compound = (compounded)
 
-pub ruleset listed_laws = (listed_first, listed_next)
+pub ruleset for_listed = (listed_first, listed_next)

@@ -56,4 +56,4 @@ module _ (source : List ℕ) (names : Names) (at : ℕ) (t : Token) (e : t ≡ t
       stmt_on zero z = absurd (z refl)
       stmt_on (suc left) z = rw (sub-one, ← e, q) (then_got _ started)
 
-pub ruleset statement_laws = (stmt_empty, stmt_unknown, stmt_deep, stmt_on)
+pub ruleset for_statement = (stmt_empty, stmt_unknown, stmt_deep, stmt_on)

@@ -52,7 +52,7 @@ fn ends_statement(t: Token) -> bool
 // A condition, the word after it, and the statement that it guards; the jump where it fails is not filled in yet.
 // `left` is how many levels are left for this statement, its own among them; `inner` for those in it.
 #[cycle(parts)]
-#[tactic(auto, using(parser::proofs::Answers::then_got, parser::proofs::ReadLaws::came, parser::proofs::ReadLaws::pass, emitter::proofs::Lays::kept_then, crate::proofs::Branches::guarded_laws))]
+#[tactic(auto, using(parser::proofs::Answers::then_got, parser::proofs::ReadLaws::came, parser::proofs::ReadLaws::pass, emitter::proofs::Lays::kept_then, crate::proofs::Branches::for_guarded))]
 fn guarded(
     source: &[u8],
     table: &[u16],
@@ -97,7 +97,7 @@ fn guarded(
 
 // An `.IF` that is a statement (S4, W10).
 #[cycle(parts)]
-#[tactic(auto, using(expressions::proofs::Leaves::hole_later, parser::proofs::Answers::then_got, parser::proofs::ReadLaws::came, parser::proofs::ReadLaws::pass, emitter::proofs::Lays::kept_then, crate::proofs::Branches::if_statement_laws))]
+#[tactic(auto, using(expressions::proofs::Leaves::hole_later, parser::proofs::Answers::then_got, parser::proofs::ReadLaws::came, parser::proofs::ReadLaws::pass, emitter::proofs::Lays::kept_then, crate::proofs::Branches::for_if_statement))]
 fn if_statement(
     source: &[u8],
     table: &[u16],
@@ -146,7 +146,7 @@ fn if_statement(
 
 // `.WHEN` condition `.THEN` statement (W11).
 #[cycle(parts)]
-#[tactic(auto, using(parser::proofs::Answers::then_got, parser::proofs::ReadLaws::came, parser::proofs::ReadLaws::pass, crate::proofs::Branches::when_statement_laws))]
+#[tactic(auto, using(parser::proofs::Answers::then_got, parser::proofs::ReadLaws::came, parser::proofs::ReadLaws::pass, crate::proofs::Branches::for_when_statement))]
 fn when_statement(
     source: &[u8],
     table: &[u16],
@@ -188,7 +188,7 @@ fn when_statement(
 
 // `.WHILE` condition `.DO` statement (W11).
 #[cycle(parts)]
-#[tactic(auto, using(parser::proofs::Answers::then_got, parser::proofs::ReadLaws::came, parser::proofs::ReadLaws::pass, crate::proofs::Branches::while_statement_laws))]
+#[tactic(auto, using(parser::proofs::Answers::then_got, parser::proofs::ReadLaws::came, parser::proofs::ReadLaws::pass, crate::proofs::Branches::for_while_statement))]
 fn while_statement(
     source: &[u8],
     table: &[u16],
@@ -232,7 +232,7 @@ fn while_statement(
 
 // `.FOR` integer or `#` = its first value, `.DO` statement (W13).
 #[cycle(parts)]
-#[tactic(auto, using(parser::proofs::Answers::then_got, parser::proofs::ReadLaws::came, parser::proofs::ReadLaws::pass, emitter::proofs::Lays::kept_then, crate::proofs::Forms::for_statement_laws, crate::proofs::CountingLaws::for_statement_laws))]
+#[tactic(auto, using(parser::proofs::Answers::then_got, parser::proofs::ReadLaws::came, parser::proofs::ReadLaws::pass, emitter::proofs::Lays::kept_then, crate::proofs::Forms::for_for_statement, crate::proofs::CountingLaws::for_for_statement))]
 fn for_statement(
     source: &[u8],
     table: &[u16],
@@ -281,7 +281,7 @@ fn for_statement(
 
 // Statements of a level, separated by `;`. Each `;` takes a byte, so the source has as many bytes as there are turns.
 #[cycle(parts)]
-#[tactic(auto, using(parser::proofs::ReadLaws::list_failed, parser::proofs::ReadLaws::list_zero, parser::proofs::ReadLaws::list_last, parser::proofs::ReadLaws::sequel_next, crate::proofs::Lists::listed_laws))]
+#[tactic(auto, using(parser::proofs::ReadLaws::list_failed, parser::proofs::ReadLaws::list_zero, parser::proofs::ReadLaws::list_last, parser::proofs::ReadLaws::sequel_next, crate::proofs::Lists::for_listed))]
 fn listed(
     source: &[u8],
     table: &[u16],
@@ -319,7 +319,7 @@ fn listed(
 
 // `.BEGIN` statements `.END`.
 #[cycle(parts)]
-#[tactic(auto, using(crate::proofs::Forms::compound_laws, crate::proofs::Lists::compound_laws))]
+#[tactic(auto, using(crate::proofs::Forms::for_compound, crate::proofs::Lists::for_compound))]
 fn compound(
     source: &[u8],
     table: &[u16],
@@ -344,7 +344,7 @@ fn compound(
 
 // A statement from after its first token.
 #[cycle(parts)]
-#[tactic(auto, using(crate::proofs::AssignmentLaws::form_laws))]
+#[tactic(auto, using(crate::proofs::AssignmentLaws::for_form))]
 fn form(
     source: &[u8],
     table: &[u16],
@@ -375,7 +375,7 @@ fn form(
 
 // A statement, with `left` levels of nesting left, its own among them; an empty one has none of its own.
 #[cycle(parts)]
-#[tactic(auto, using(parser::proofs::Answers::got_read, parser::proofs::Answers::got_failed, parser::proofs::Answers::got_with_lem, parser::proofs::ReadLaws::reads_on, emitter::proofs::Lays::kept_here, emitter::proofs::Lays::nothing, crate::proofs::Starts::statement_laws))]
+#[tactic(auto, using(parser::proofs::Answers::got_read, parser::proofs::Answers::got_failed, parser::proofs::Answers::got_with_lem, parser::proofs::ReadLaws::reads_on, emitter::proofs::Lays::kept_here, emitter::proofs::Lays::nothing, crate::proofs::Starts::for_statement))]
 fn statement(
     source: &[u8],
     table: &[u16],

@@ -155,6 +155,6 @@ packing_laws =
       cut = six_cut;
     }
 
-pub ruleset lookup_lookup_laws = (name_unpacked)
+pub ruleset for_lookup = (name_unpacked)
 
-pub ruleset packing_laws_laws = (packing_laws)
+pub ruleset for_packing_laws = (packing_laws)

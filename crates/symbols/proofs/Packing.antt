@@ -193,6 +193,4 @@ pub x_packed : (p : Packed) → is_x (unpack p) ≡ same_packed p (record { one 
 unfolding is_x unpack trimmed before_trimmed
 x_packed p = sym (same_unpacked p (record { one = 0o054000; two = 0; three = 0 }))
 
-pub ruleset is_x_laws = (x_packed)
-
-pub ruleset newest_laws = (same_unpacked)
+pub ruleset for_newest = (same_unpacked)

@@ -147,6 +147,6 @@ module _ (n : ℕ) (t : List ℕ) (name : Packed) (level : ℕ) (symbol : Symbol
   unfolding table_with
   declared_full h = record { words = rw (le-ltb n (length t / 7) h); newest = λ l. absurd (omega arith); kept = refl }
 
-pub ruleset declare_laws = (declared_room, declared_full)
+pub ruleset for_declare = (declared_room, declared_full)
 
-pub ruleset newest_laws = (held_all)
+pub ruleset for_newest = (held_all)

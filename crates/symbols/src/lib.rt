@@ -130,7 +130,7 @@ pub fn pack(source: &[u8], name: Token) -> Packed
 }
 
 // Which names pack alike: those whose first six characters are the same, all of them where there are fewer (T14).
-#[tactic(auto, using(crate::proofs::PackedTokens::packing_laws_laws))]
+#[tactic(auto, using(crate::proofs::PackedTokens::for_packing_laws))]
 pub fn packing_laws()
     ensures { PackingLaws }
 {}
@@ -298,7 +298,7 @@ pub fn row_at(table: &[u16], i: usize) -> Row
 }
 
 // The number, from 1, of the newest of the first `count` entries with the name; 0 for none. A table too short for them has none.
-#[tactic(auto, using(crate::proofs::Packing::newest_laws, crate::proofs::Table::newest_laws), unfolding(crate::specs::Table::entries_of, crate::specs::Table::row_at, prelude::specs::Choice::find, crate::specs::Table::nth_in, crate::specs::Table::live_names))]
+#[tactic(auto, using(crate::proofs::Packing::for_newest, crate::proofs::Table::for_newest), unfolding(crate::specs::Table::entries_of, crate::specs::Table::row_at, prelude::specs::Choice::find, crate::specs::Table::nth_in, crate::specs::Table::live_names))]
 fn newest(table: &[u16], count: usize, name: Packed) -> usize
     ensures { Newest count table.now name result }
 {
@@ -351,7 +351,7 @@ pub fn is_taken(table: &[u16], count: usize, name: Packed, level: u16) -> bool
 
 // An entry above the first `count`, which stay; what stood above them is dropped. A table without room stays as it is.
 // An id in the entry is of the entry's level, whatever level the symbol's has.
-#[tactic(auto, using(crate::proofs::Table::declare_laws))]
+#[tactic(auto, using(crate::proofs::Table::for_declare))]
 pub fn declare(table: &mut [u16], count: usize, name: Packed, level: u16, symbol: Symbol)
     ensures { Entered count table.old name level (tree_symbol symbol) table.new }
 {

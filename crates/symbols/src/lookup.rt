@@ -9,7 +9,7 @@ use crate::{Symbol, find, pack};
 use source::{Token, kind, token_at};
 
 // What a token stands for: a name by the table's first `names` entries, a numeral for its value, as a compconstant's name does.
-#[tactic(auto, using(crate::proofs::PackedTokens::lookup_lookup_laws), unfolding(crate::specs::Lookup::symbol_by, crate::specs::Trees::tree_symbol))]
+#[tactic(auto, using(crate::proofs::PackedTokens::for_lookup), unfolding(crate::specs::Lookup::symbol_by, crate::specs::Trees::tree_symbol))]
 pub fn lookup(source: &[u8], table: &[u16], names: usize, t: Token) -> Symbol
     ensures { LooksUp source.now (live_names names table.now) t (tree_symbol result) }
 {

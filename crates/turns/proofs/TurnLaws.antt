@@ -145,4 +145,4 @@ list (suc n) s = list_by n s (decided one_turn s)
 pub turn_laws : TurnLaws
 turn_laws = record { list = list; as_one = as_one; refusal = refusal }
 
-pub ruleset turns_are_runs_laws = (turn_laws)
+pub ruleset for_turns_are_runs = (turn_laws)

@@ -55,5 +55,3 @@ module _ (n i : ℕ) (w : Work) (s₀ s : State) (before : turns_def n s₀ ≡ 
   pub turns_done : n ≤ i → turns_def n s₀ ≡ ran w Spent s
   unfolding turns_def
   turns_done h = let q : n - i ≡ 0 = omega arith in before ∙ ap (λ (k : ℕ). more w (turns_def k s)) q ∙ ap (λ (u : Work). ran u Spent s) (add_work_none w)
-
-pub ruleset run_turns_laws = (turn_reported, turns_start, turns_onward, turns_last, turns_done)

@@ -74,7 +74,7 @@ pub fn run_turns(image: &mut [u16], machine: Machine, turns: u32) -> Turned
 }
 
 // Turns come to what runs come to: this function carries the theorem as its contract.
-#[tactic(auto, using(crate::proofs::TurnLaws::turns_are_runs_laws))]
+#[tactic(auto, using(crate::proofs::TurnLaws::for_turns_are_runs))]
 pub fn turns_are_runs()
     ensures { TurnLaws }
 {}

@@ -67,4 +67,4 @@ negative_changes n w large fits =
     let q : 65536 - (65536 - w) ≡ w = omega arith in
     ap (sign_changes n) (sym q) ∙ magnitude_changes n (65536 - w) (omega arith) (omega arith)
 
-pub ruleset shift_sign_changes_laws = (positive_changes, negative_changes)
+pub ruleset for_sign_changes = (positive_changes, negative_changes)

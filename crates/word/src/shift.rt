@@ -101,7 +101,7 @@ fn logical_left(amount: u16, w: u16) -> Flagged
 }
 
 // The sign changes on the way exactly if the shifted magnitude does not fit.
-#[tactic(auto, using(crate::proofs::Signs::shift_sign_changes_laws))]
+#[tactic(auto, using(crate::proofs::Signs::for_sign_changes))]
 fn sign_changes(amount: u16, w: u16) -> bool
     requires { amount ≤ 15 }
     ensures { result ≡ sign_changes amount w }
