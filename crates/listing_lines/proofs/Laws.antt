@@ -71,3 +71,5 @@ module _ {a b : List ℕ} {r : ℕ} (image : List ℕ) where
   unfolding listing_def result_lines
   whole_failed {number = number} {at = at} e p program =
       whole p (ap (λ x. listing_def (result_for program x image)) e) (simp length-append (omega (arith, decimal_length 20 number, decimal_length 20 at)))
+
+pub ruleset for_put_words = (next_word, no_word, none_left)

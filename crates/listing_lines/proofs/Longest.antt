@@ -74,3 +74,5 @@ fits source image scratch =
 
 pub listing_laws : ListingLaws
 listing_laws = record { same = same_lines; fits = fits }
+
+pub ruleset for_listing_laws = (listing_laws)

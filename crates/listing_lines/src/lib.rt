@@ -46,6 +46,7 @@ fn put_word(out: &mut [u8], at: usize, name: &[u8], address: usize, word: u16) -
 }
 
 // The lines of so many words of the image, those that it has.
+#[tactic(auto, using(digits::proofs::Laws::begins, digits::proofs::Laws::goes_on, digits::proofs::Laws::is_whole, crate::proofs::Laws::for_put_words))]
 fn put_words(
     out: &mut [u8],
     image: &[u16],
@@ -108,6 +109,7 @@ pub fn lines(answer: Answer, image: &[u16], out: &mut [u8]) -> usize
 }
 
 // The lines of what `compile` answers and leaves are its result's, and fit in LONGEST bytes: this function carries the theorems as its contract.
+#[tactic(auto, using(crate::proofs::Longest::for_listing_laws))]
 pub fn listing_laws() -> usize
     ensures { ListingLaws × (result ≡ longest) }
 {

@@ -1,0 +1,5 @@
+use Rattle.digits.proofs.Laws.{then}
+use Rattle.listing_lines.proofs.put_line.Goals as goal
+
+pub returns : goal.returns
+returns c = then c.put_text-named.ensures (then c.put_octal-valued.ensures c.put_byte.ensures)
