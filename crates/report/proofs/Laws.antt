@@ -214,3 +214,13 @@ module _ (memory : List ℕ) where
   pub globals_are : (ds : List Declaration) → names_text memory (allocated ds).scope.names ≡ globals_text memory layout.start ds
   unfolding allocated names_text next_array
   globals_are ds = all_names layout.start ds (refl, refl)
+
+pub ruleset for_put_array = (no_elements, elements)
+
+pub ruleset for_put_elements = (next_element, no_element)
+
+pub ruleset for_put_end = (row_ends, row_open)
+
+pub ruleset for_put_head = (row_starts, row_goes_on)
+
+pub ruleset for_trimmed_length = (zero_passed, other_stays, none_taken)

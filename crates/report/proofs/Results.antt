@@ -90,3 +90,5 @@ module _ (source image scratch out : List ℕ) (turns : ℕ) (switches : Switche
       → Wrote out out' 0 r (failure_text source number at) → Wrote out out' 0 r (shown_of source Res turns switches) × (image' ≡ image_shown Res turns switches image)
   unfolding shown_of image_shown image_after
   failure_shown q a laid wrote = let is = failed_is Res (sym a ∙ q) in (rw is wrote, rw is (rw is at laid))
+
+pub ruleset for_show = (accepted_is, long_enough, run_shown, failure_shown)

@@ -32,6 +32,7 @@ fn less(n: usize, m: usize) -> usize
 }
 
 // How many bytes stand before the zeros at the end.
+#[tactic(auto, using(crate::proofs::Laws::for_trimmed_length))]
 fn trimmed_length(bytes: &[u8]) -> usize
     ensures { (take result bytes.now ≡ trimmed bytes.now) × (result ≤ length bytes.now) }
 {
@@ -45,6 +46,7 @@ fn trimmed_length(bytes: &[u8]) -> usize
     0
 }
 
+#[tactic(auto, unfolding(symbols::specs::Packing::unpack))]
 fn put_name(out: &mut [u8], at: usize, name: Packed) -> usize
     ensures { Wrote out.old out.new at result (unpack name) }
 {
@@ -60,6 +62,7 @@ fn put_name(out: &mut [u8], at: usize, name: Packed) -> usize
     put_text(out, at, &bytes[..n])
 }
 
+#[tactic(auto, unfolding(crate::specs::Globals::id_text, crate::specs::Globals::integer_text, symbols::specs::Trees::tree_id))]
 fn put_integer(out: &mut [u8], at: usize, name: Packed, id: Id, image: &[u16]) -> usize
     ensures { Wrote out.old out.new at result (id_text image.now (unpack name) (tree_id id)) }
 {
@@ -73,6 +76,7 @@ fn put_integer(out: &mut [u8], at: usize, name: Packed, id: Id, image: &[u16]) -
 }
 
 // What stands before an element: its array and subscript at the start of a row, else a comma.
+#[tactic(auto, using(digits::proofs::Laws::then, digits::proofs::Laws::same_text, crate::proofs::Laws::for_put_head))]
 fn put_head(out: &mut [u8], at: usize, name: Packed, column: usize, left: usize) -> usize
     ensures { Wrote out.old out.new at result (element_head (unpack name) column left) }
 {
@@ -86,6 +90,7 @@ fn put_head(out: &mut [u8], at: usize, name: Packed, column: usize, left: usize)
 }
 
 // A row ends after ten elements, and with the array.
+#[tactic(auto, using(digits::proofs::Laws::same_text, digits::proofs::Laws::nothing, crate::proofs::Laws::for_put_end))]
 fn put_end(out: &mut [u8], at: usize, column: usize, left: usize) -> usize
     ensures { Wrote out.old out.new at result (element_end column left) }
 {
@@ -111,6 +116,7 @@ fn put_element(
     put_end(out, two, column, left)
 }
 
+#[tactic(auto, using(digits::proofs::Laws::begins, digits::proofs::Laws::goes_on, digits::proofs::Laws::is_whole, crate::proofs::Laws::for_put_elements))]
 fn put_elements(
     out: &mut [u8],
     at: usize,
@@ -132,6 +138,7 @@ fn put_elements(
     next
 }
 
+#[tactic(auto, using(digits::proofs::Laws::then, digits::proofs::Laws::same_text, crate::proofs::Laws::for_put_array))]
 fn put_array(
     out: &mut [u8],
     at: usize,
@@ -149,6 +156,7 @@ fn put_array(
     put_elements(out, at, name, size, array, image)
 }
 
+#[tactic(auto, unfolding(crate::specs::Globals::symbol_text, symbols::specs::Trees::tree_symbol))]
 fn put_row(out: &mut [u8], at: usize, row: Row, array: usize, image: &[u16]) -> usize
     ensures { Wrote out.old out.new at result
         (symbol_text image.now (unpack row.name) array (tree_symbol row.symbol)) }
@@ -163,6 +171,7 @@ fn put_row(out: &mut [u8], at: usize, row: Row, array: usize, image: &[u16]) -> 
 }
 
 // How many elements a symbol takes.
+#[tactic(auto, unfolding(crate::specs::Globals::size_of, symbols::specs::Trees::tree_symbol))]
 fn size_of(symbol: Symbol) -> usize
     ensures { result ≡ size_of (tree_symbol symbol) }
 {
@@ -173,6 +182,7 @@ fn size_of(symbol: Symbol) -> usize
 }
 
 // The first `count` rows of the table.
+#[tactic(auto, unfolding(crate::specs::Globals::names_text, crate::specs::Globals::next_array, symbols::specs::Table::entries_of))]
 pub fn put_globals(out: &mut [u8], at: usize, table: &[u16], count: usize, image: &[u16]) -> usize
     requires { entry_words * count ≤ length table.now }
     ensures { Wrote out.old out.new at result (names_text image.now (entries_of count table.now)) }

@@ -13,6 +13,7 @@ mod globals;
 mod run;
 
 // Compiles the source, runs its image for so many turns of 1,000,000 steps and writes what is to be shown (O8). Answers how many bytes that is.
+#[tactic(auto, using(crate::proofs::Results::for_show))]
 pub fn show(
     source: &[u8],
     turns: u32,

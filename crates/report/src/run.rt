@@ -14,6 +14,7 @@ use machine::Outcome;
 use symbols::ENTRY;
 use turns::Turned;
 
+#[tactic(auto, unfolding(crate::specs::Shown::outcome_text))]
 fn put_outcome(out: &mut [u8], outcome: Outcome) -> usize
     ensures { Wrote out.old out.new 0 result (outcome_text outcome) }
 {
@@ -40,6 +41,7 @@ fn put_steps(out: &mut [u8], at: usize, steps: u64) -> usize
     put_text(out, next, b" steps\n")
 }
 
+#[tactic(auto, unfolding(crate::specs::Shown::bit_text))]
 fn put_bit(out: &mut [u8], at: usize, bit: bool) -> usize
     ensures { Wrote out.old out.new at result (bit_text bit) }
 {
@@ -103,6 +105,7 @@ fn read_program(source: &[u8], table: &mut [u16]) -> ProgramFacts
 }
 
 // Whether a run stopped at a subscript: it halted, and P is not behind the last HLT, where a program ends (O11).
+#[tactic(auto, unfolding(crate::specs::Shown::stops_by))]
 fn stops(read: ProgramFacts, outcome: Outcome, p: u16) -> bool
     ensures { result ≡ stops_by read.checked read.end outcome p }
 {
@@ -113,6 +116,7 @@ fn stops(read: ProgramFacts, outcome: Outcome, p: u16) -> bool
 }
 
 // How a run ended, with X where it stopped at a subscript.
+#[tactic(auto, unfolding(crate::specs::Shown::end_text))]
 fn put_ending(out: &mut [u8], stopped: bool, outcome: Outcome, x: u16) -> usize
     ensures { Wrote out.old out.new 0 result (end_text stopped outcome x) }
 {

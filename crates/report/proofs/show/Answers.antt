@@ -1,0 +1,20 @@
+use mathlib.Core.Path.{ap, ◌∙◌}
+use lib.ListN.{replicate}
+use Rattle.report.proofs.Results.{run_shown, failure_shown}
+use Rattle.report.proofs.show.Goals as goal
+
+pub returns-in-Accepted : goal.returns-in-Accepted
+returns-in-Accepted c = let called = c.compile-answer.ensures in
+    let shown = run_shown c.args.source.now c.args.image.now c.args.scratch.now c.args.out.now c.args.turns c.args.switches
+    called.answered c.in-Accepted.is called.laid c.start-first.ensures c.run_turns-ran.ensures c.put_run-size.ensures in
+    record {
+      written = shown.0;
+      left = shown.1;
+      cleared = c.clear.ensures ∙ ap (λ n. replicate n 0) (c.scratch-in-Accepted-1.given ∙ c.scratch-1.given);
+    }
+
+pub returns-in-Failed : goal.returns-in-Failed
+returns-in-Failed c = let called = c.compile-answer.ensures in
+    let shown = failure_shown c.args.source.now c.args.image.now c.args.scratch.now c.args.out.now c.args.turns c.args.switches
+    called.answered c.in-Failed.is called.laid c.put_failure.ensures in
+    record { written = shown.0; left = shown.1; cleared = called.cleared }
