@@ -11,6 +11,7 @@ pub enum Input {
 
 // Reads until the text is full or the input ends. A read that fails, be it the first or a later one, makes the whole input unreadable: a part of a
 // source would be another source.
+#[tactic(auto, unfolding(crate::specs::Inputs::bytes_read))]
 pub fn read_source(from: &mut impl Read, text: &mut [u8]) -> Input
     ensures { Fits result text.new }
 {

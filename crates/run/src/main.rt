@@ -66,6 +66,7 @@ fn show(rt: &impl Print, source: &[u8], asked: Asked) {
     print_start(rt, &out, size);
 }
 
+#[tactic(auto, unfolding(crate::specs::Inputs::bytes_read))]
 fn run_input(rt: &impl Print, from: &mut impl Read, asked: Asked) {
     // One byte more than the longest source: a longer one fails by that byte (F3).
     let mut text = [0u8; 8193];

@@ -1,5 +1,4 @@
 use Prim.Native.Nat.{◌≤◌, ◌-◌}
-use borrow.Author.Rules.{rules}
 use Rattle.listing_vectors.proofs.cases.Given as goal
 
 -- `listing_vectors::cases` is safe and ends.

@@ -1,5 +1,4 @@
 use Prim.Native.Nat.{◌≤◌, ◌-◌}
-use borrow.Author.Rules.{rules}
 use Rattle.page_vectors.proofs.cases.Given as goal
 
 abbrev pub invariant-loop-i : goal.invariant-loop-i

@@ -10,14 +10,14 @@ use Rattle.declarations.specs.Scopes.{table_words}
 use Rattle.declarations.specs.Procedures.{program_on}
 use Rattle.declarations.proofs.program.program.Goals as goal
 
--- A short table is refused; else it is the program, and no call changes a length.
--- the definition's length, by the one that the code compares with
+-- The definition's length, by the one that the code compares with.
 short : {n m : ℕ} → n < m → m ≤ table_words → leb table_words n ≡ false
 short {n} h l = lt-leb table_words n (omega (arith, h, l))
 
 room : {n m : ℕ} → m ≤ n → table_words ≤ m → leb table_words n ≡ true
 room {n} h l = le-leb table_words n (omega (arith, h, l))
 
+-- A short table is refused; else it is the program, and no call changes a length.
 pub returns-then-table-lt-TABLE_WORDS : goal.returns-then-table-lt-TABLE_WORDS
 unfolding program_on
 returns-then-table-lt-TABLE_WORDS c = (fails {k = 2} {at = 0} (rw (short c.if-table-lt-TABLE_WORDS.true (omega arith))) refl tt, record { table_kept = refl; image_kept = refl })
