@@ -177,6 +177,13 @@ wanted "The file \"$edge/missing\" cannot be opened."
 "$run" "$edge/missing" >"$work/found" 2>&1 </dev/null
 at_edge 'a missing file'
 
+# A name with a byte that is no UTF-8: the byte is shown as a `?`.
+latin=$(printf 'caf\351')
+printf '%s\n' "$small" >"$edge/$latin"
+wanted "The file \"$edge/caf?\" cannot be opened."
+"$run" "$edge/$latin" >"$work/found" 2>&1 </dev/null
+at_edge 'a file whose name is not UTF-8'
+
 wanted "$unreadable"
 "$run" "$edge" >"$work/found" 2>&1 </dev/null
 at_edge 'a directory'
