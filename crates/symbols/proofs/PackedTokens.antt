@@ -10,6 +10,7 @@ use lib.Seq.{drop-drop}
 use lib.Dec.{eqb, leb}
 use borrow.Author.Tests.{eq-eqb}
 use Rattle.prelude.specs.Choice.{whether, given, find}
+use Rattle.source.specs.Kinds.{kind_number}
 use Rattle.source.specs.Bytes.{is_letter, is_digit, is_octal_digit, is_letter_or_digit, is_blank, span, starts_with, same_bytes}
 use Rattle.source.specs.Kinds
 use Rattle.source.specs.Keywords.{keywords, keyword_length, keyword_kind}
@@ -25,7 +26,7 @@ abbrev Other : ℕ → Type 0
 Other kind = eqb kind Kinds.name ≡ false
 
 abbrev OtherToken : Token → Type 0
-OtherToken t = Other t.kind
+OtherToken t = Other (kind_number t.kind)
 
 abbrev OtherRow : Option (List ℕ × ℕ) → Type 0
 OtherRow o = given o (λ r. eqb r.1 Kinds.name) (λ _. false) ≡ false
@@ -52,15 +53,15 @@ given_other : (o : Option (List ℕ × ℕ)) → OtherRow o → Other (given o (
 given_other none h = refl
 given_other (some r) h = h
 
-constant_other : (n limit word at width : ℕ) → Other (constant_token n limit word at width).kind
+constant_other : (n limit word at width : ℕ) → Other (kind_number (constant_token n limit word at width).kind)
 unfolding constant_token
 constant_other n limit word at width = either OtherToken (leb n limit) _ _ refl refl
 
-word_other : (bs : List ℕ) (at : ℕ) → Other (keyword_token bs at).kind
+word_other : (bs : List ℕ) (at : ℕ) → Other (kind_number (keyword_token bs at).kind)
 unfolding keyword_token keyword_kind
 word_other bs at = given_other (find (same_bytes (take (keyword_length bs) bs)) keywords) (found_other (same_bytes (take (keyword_length bs) bs)) keywords refl)
 
-sign_other : (bs : List ℕ) (at : ℕ) → Other (sign_token bs at).kind
+sign_other : (bs : List ℕ) (at : ℕ) → Other (kind_number (sign_token bs at).kind)
 unfolding sign_token
 sign_other bs at = go (find (λ sign. starts_with sign bs) signs) (found_other (λ sign. starts_with sign bs) signs refl)
   where
@@ -68,11 +69,11 @@ sign_other bs at = go (find (λ sign. starts_with sign bs) signs) (found_other (
     go none h = refl
     go (some r) h = h
 
-negative_other : (bs : List ℕ) (at : ℕ) → Other (negative_token bs at).kind
+negative_other : (bs : List ℕ) (at : ℕ) → Other (kind_number (negative_token bs at).kind)
 unfolding negative_token
 negative_other bs at = either OtherToken (eqb (span is_digit bs) 0) _ _ refl (constant_other _ _ _ _ _)
 
-octal_other : (bs : List ℕ) (at : ℕ) → Other (octal_token bs at).kind
+octal_other : (bs : List ℕ) (at : ℕ) → Other (kind_number (octal_token bs at).kind)
 unfolding octal_token
 octal_other bs at = either OtherToken (eqb (span is_octal_digit bs) 0) _ _ refl (constant_other _ _ _ _ _)
 
@@ -110,7 +111,7 @@ record Named (bs : List ℕ) (at : ℕ) (t : Token) : Type 0 where
   is : t ≡ token Kinds.name 0 at width
   all : all_name_bytes (take width bs) ≡ true
 
-named : (bs : List ℕ) (at : ℕ) → eqb (token_of bs at).kind Kinds.name ≡ true → Named bs at (token_of bs at)
+named : (bs : List ℕ) (at : ℕ) → eqb (kind_number (token_of bs at).kind) Kinds.name ≡ true → Named bs at (token_of bs at)
 unfolding token_of
 named [] at h = let z : ◌≡◌ {A = ℕ} 0 1 = cc in absurd (omega arith)
 named (b ∷ bs) at h = go (is_letter b) refl h
@@ -131,7 +132,7 @@ named (b ∷ bs) at h = go (is_letter b) refl h
 width_is : (at n : ℕ) → (at + n) - at ≡ n
 width_is at n = omega arith
 
-module _ (source : List ℕ) (at : ℕ) (h : eqb (token_at source at).kind Kinds.name ≡ true) where
+module _ (source : List ℕ) (at : ℕ) (h : eqb (kind_number (token_at source at).kind) Kinds.name ≡ true) where
   -- a name has letters and digits alone (T7)
   name_all : all_name_bytes (spelling source (token_at source at)) ≡ true
   unfolding token_at after_blanks

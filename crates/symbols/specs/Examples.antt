@@ -2,6 +2,7 @@
 use Rattle.std.specs.Prelude.{◌≡◌, refl, true, false, List, [], ◌∷◌, map, ℕ}
 use Rattle.std.proofs.Math.Option.{none, some}
 use Rattle.prelude.specs.Text.{bytes}
+use Rattle.source.specs.Kinds.{kind_number}
 use Rattle.source.specs.Bytes.{span, same_bytes}
 use Rattle.prelude.specs.Choice.{find}
 use Rattle.source.specs.Kinds
@@ -35,7 +36,7 @@ text : List ℕ
 text = bytes "ABCDEF ABCDEFG ABCDE A A0"
 
 packed_from : ℕ → ℕ × Packed
-packed_from at = let t = token_at text at in (t.kind, pack_of (name_of text t))
+packed_from at = let t = token_at text at in (kind_number t.kind, pack_of (name_of text t))
 
 of_tokens :
     map packed_from (0 ∷ 6 ∷ 14 ∷ 20 ∷ 22 ∷ [])
