@@ -6,7 +6,7 @@ use Rattle.layout.specs.Emission.{with_literals}
 use Rattle.emitter.specs.Emitted.{pooled, pooled_all}
 use Rattle.emitter.proofs.EmittedPools.{known, new, full, appended}
 use borrow.Author.Rules.{rules}
-use Rattle.emitter.proofs.with_literal.Goals as goal
+use Rattle.emitter.proofs.Pool.with.Goals as goal
 
 pub returns-then-index_of-count : goal.returns-then-index_of-count
 unfolding with_literals pooled_all pooled
@@ -18,8 +18,8 @@ returns-then-index_of-count c = record {
 
 pub returns-then-count-lt-POOL_WORDS : goal.returns-then-count-lt-POOL_WORDS
 unfolding with_literals pooled_all pooled
-returns-then-count-lt-POOL_WORDS c = let long : length c.args.pool.words ≡ 512 = search rules in
-    let pool = c.args.pool in
+returns-then-count-lt-POOL_WORDS c = let long : length c.args.self.words ≡ 512 = search rules in
+    let pool = c.args.self in
     record {
       held = appended pool.count pool.words _ _ c.held_count-count.ensures.0 (omega arith) ∙ sym (new _ _ _ _ c.held_count-count.ensures.0 c.index_of.ensures.0 (omega (arith, c.if-count-lt-POOL_WORDS.true)) c.if-index_of-count.false);
       whole =
