@@ -1,5 +1,6 @@
 // The kinds of token, each with its number in specs/Kinds. A keyword's kind is named by its letters.
 ghost use Rattle.std.specs.Prelude.{◌≡◌};
+ghost use Rattle.prelude.specs.Choice.{between};
 ghost use Rattle.source.specs.Kinds.{kind_number, kind_of};
 ghost use Rattle.source.specs.Tables.{kind_numbered};
 
@@ -92,6 +93,13 @@ impl Kind {
         ensures { result ≡ kind_number self }
     {
         self as u16
+    }
+
+    // By the numbers, in which words of one sort follow one another.
+    pub fn is_between(self, low: Kind, high: Kind) -> bool
+        ensures { result ≡ between (kind_number low) (kind_number high) (kind_number self) }
+    {
+        (low.number()..=high.number()).contains(&self.number())
     }
 }
 

@@ -6,6 +6,7 @@ use Rattle.source.specs.Kinds.{kind_number}
 use Rattle.source.specs.Bytes.{span, same_bytes}
 use Rattle.prelude.specs.Choice.{find}
 use Rattle.source.specs.Kinds
+use Rattle.source.specs.declared.kind.Kind.TheVariants as Kind
 use Rattle.source.specs.Tokens.{token, token_of, after_blanks, token_at, name_of}
 use Rattle.tree.specs.Tree.{Id, Name}
 use Rattle.tree.specs.Symbols.{Symbol, Level, next_id}
@@ -18,7 +19,7 @@ unfolding pack_of
 packed = refl
 
 -- no more than six characters count (T7)
-six : pack_of (name_of (bytes ".INTEGER LENGTH1;") (token Kinds.name 0 9 7)) ≡ pack_of (bytes "LENGTH")
+six : pack_of (name_of (bytes ".INTEGER LENGTH1;") (token Kind.Name 0 9 7)) ≡ pack_of (bytes "LENGTH")
 unfolding pack_of name_of
 six = refl
 
