@@ -1,5 +1,5 @@
 use Prim.Native.Nat.{◌*◌, ◌+◌}
-use Rattle.expressions.proofs.+parts.Given as goal
+use Rattle.expressions.proofs.Body.+parts.Given as goal
 
 abbrev pub decreases-alternative : goal.decreases-alternative
 decreases-alternative l = 8 * l.left + 1
