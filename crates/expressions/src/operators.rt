@@ -23,10 +23,10 @@ use word::shift;
 fn emit_before(image: &mut [u16], output: Output, kind: Kind) -> Output
     ensures { AlwaysEmits (plain_words (before_by (kind_number kind))) output image.old result image.new }
 {
-    if kind == Kind::Slash || kind == Kind::Mod {
-        return emit_shift(image, output, shift::LRS, 15);
+    match kind {
+        Kind::Slash | Kind::Mod => emit_shift(image, output, shift::LRS, 15),
+        _ => output,
     }
-    output
 }
 
 // After a product LLS brings it into A, after a division IAB the remainder for `.MOD` (W18).
