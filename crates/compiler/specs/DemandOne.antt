@@ -1,5 +1,6 @@
 -- Demand 1 as a caller of `compile` and `run` sees it: how a call can end, whatever is handed in. Clauses are those of docs/DEMANDS.md.
 use Rattle.std.specs.Prelude.{ℕ, ◌≤◌, ◌<◌, ◌≡◌, List, length, replicate}
+use Rattle.machine.specs.declared.failure.Failure.{Failure}
 use Rattle.machine.specs.Clock.{spend_many}
 use Rattle.machine.specs.Run.{refusal_of}
 use Rattle.runs.specs.Outcomes.{Ended, Refusal}
@@ -23,9 +24,9 @@ pub data CompileEnds (source image scratch : List ℕ) (r : Answer) (image' : Li
 -- of `run` (demand 1b)
 pub data RunEnds (c : RunCall) : Type 0 where
   -- 27, 1, 23 or 22, just on its cause: 0 steps, and everything as it was (R7, J12, demand 1d)
-  refused : (n : ℕ) → Refusal c.turn.request c.start n → c.report ≡ refusal_of n c.start.machine c.clock → c.image ≡ c.start.image → RunEnds c
+  refused : (f : Failure) → Refusal c.turn.request c.start f → c.report ≡ refusal_of f c.start.machine c.clock → c.image ≡ c.start.image → RunEnds c
   -- halted, spent, or 20 or 21 with the state before that step (R6, demand 1d): the steps that it reports were made, and the clock record counts them
-  ended : ((n : ℕ) → Refusal c.turn.request c.start n → ⊥) → Ended c.turn.request.budget c.start (told c)
+  ended : ((f : Failure) → Refusal c.turn.request c.start f → ⊥) → Ended c.turn.request.budget c.start (told c)
       → c.report.clock ≡ spend_many c.turn.request c.report.steps c.clock → RunEnds c
 
 -- DEMAND 1 of every call

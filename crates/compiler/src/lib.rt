@@ -14,7 +14,7 @@ use declarations::{ProgramAnswer, SectorEnds, with_end};
 use emitter::held_count;
 use layout::addresses;
 use layout::addresses::MEMORY_WORDS;
-use machine::failure::WRONG_IMAGE;
+use machine::failure::Failure;
 use parser::Part;
 use parser::failures::SHORT_SCRATCH;
 
@@ -22,6 +22,8 @@ pub mod demand;
 
 // How much scratch `compile` asks for (F2).
 pub const SCRATCH_WORDS: usize = 6144;
+
+const WRONG_IMAGE: u16 = Failure::WrongImage as u16;
 
 const SOURCE_BYTES: usize = 8192;
 

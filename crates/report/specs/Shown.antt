@@ -7,6 +7,7 @@ use Rattle.prelude.specs.Text.{bytes}
 use Rattle.effect.specs.declared.Registers.{Registers}
 use Rattle.effect.specs.declared.Switches.{Switches}
 use Rattle.machine.specs.declared.Outcome.{Outcome}
+use Rattle.machine.specs.Failure.{number_of}
 use Rattle.machine.specs.State.{State, state}
 use Rattle.machine.specs.Run.{Ran}
 use Rattle.tree.specs.Tree.{Program}
@@ -27,13 +28,13 @@ use Rattle.report.specs.Globals.{globals_text}
 unfoldable pub outcome_text : Outcome → List ℕ
 outcome_text Outcome.Halted = bytes "halted after "
 outcome_text Outcome.Spent = bytes "spent: not halted after "
-outcome_text (Outcome.Failed n) = bytes "failed with " ++ (decimal n ++ (bytes ", " ++ (words_of n ++ bytes ", after ")))
+outcome_text (Outcome.Failed f) = let n = number_of f in bytes "failed with " ++ (decimal n ++ (bytes ", " ++ (words_of n ++ bytes ", after ")))
 
 -- whether a run stopped at a subscript: with `.CHECKED` it halted, and P is not behind the main body's last HLT. By demand 3h and 3l it is then behind the HLT of a test (O11)
 unfoldable pub stops_by : Bool → ℕ → Outcome → ℕ → Bool
 stops_by checked end Outcome.Halted at = checked && not (eqb at end)
 stops_by checked end Outcome.Spent at = false
-stops_by checked end (Outcome.Failed n) at = false
+stops_by checked end (Outcome.Failed f) at = false
 
 abbrev pub stops_in : Program → Outcome → ℕ → Bool
 stops_in p outcome at = stops_by p.checked (finished p).next outcome at

@@ -21,7 +21,8 @@ fn put_outcome(out: &mut [u8], outcome: Outcome) -> usize
     match outcome {
         Outcome::Halted => put_text(out, 0, b"halted after "),
         Outcome::Spent => put_text(out, 0, b"spent: not halted after "),
-        Outcome::Failed(number) => {
+        Outcome::Failed(failure) => {
+            let number = failure.number();
             let one = put_text(out, 0, b"failed with ");
             let two = put_decimal(out, one, number as usize);
             let three = put_text(out, two, b", ");
