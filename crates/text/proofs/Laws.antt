@@ -1,5 +1,5 @@
 -- Texts written one after another.
-use Prim.Native.Nat.{ℕ, zero, suc, ◌+◌, ◌-◌, ◌/◌, ◌%◌, ◌≤◌, ◌<◌, min}
+use Prim.Native.Nat.{ℕ, suc, ◌+◌, ◌-◌, ◌/◌, ◌%◌, ◌^◌, ◌≤◌, ◌<◌, min}
 use mathlib.Core.Path.{◌≡◌, refl, sym, ap, ◌∙◌}
 use mathlib.Core.Bool.{Bool, true, false}
 use mathlib.Core.List.{List, [], ◌∷◌, ◌++◌}
@@ -7,12 +7,15 @@ use native.Mathlib.Nat.{add-zero, add-suc, suc-add}
 use native.Mathlib.Numerals.{add-one}
 use native.Mathlib.Omega.{arith}
 use borrow.Author.Tests.{leb-true, leb-false, lt-ltb, le-ltb}
-use lib.Dec.{leb, ltb}
-use lib.ListN.{length, drop, set, get_or, length-append}
-use lib.Seq.{sets, set_out, drop-cons, length-sets}
-use Rattle.prelude.specs.Choice.{whether}
+use lib.Dec.{leb}
+use lib.ListN.{length, take, drop, set, get_or, replicate, length-append}
+use lib.Seq.{sets, set_out, drop-cons, length-sets, take-suc}
+use Rattle.std.proofs.lemmas.List.{replicate_more}
 use Rattle.digits.specs.Digits.{decimal_by, decimal, signed}
-use Rattle.digits.specs.Wrote.{largest, Wrote}
+use Rattle.digits.proofs.Widths.{next_digit, no_more_digits}
+use Rattle.text.specs.Wrote.{largest, Wrote}
+use Rattle.text.specs.Adds.{Adds}
+use Rattle.text.specs.declared.Text.{Text}
 
 -- ---- Runs of stores
 
@@ -103,40 +106,40 @@ is_whole {b = b} {m = m} e p =
 pub next_byte : (text : List ℕ) (i : ℕ) → i < length text → drop i text ≡ (get_or text i 0 ∷ []) ++ drop (i + 1) text
 next_byte text i h = rw (add-one, drop-cons text i 0 h)
 
--- ---- Decimal digits
+-- ---- Numbers, by their cases
 
--- at most so many
-pub decimal_length : (k n : ℕ) → length (decimal_by k n) ≤ k
+pub one_digit : (n : ℕ) → n < 10 → decimal n ≡ (48 + n % 10) ∷ []
 unfolding decimal_by
-decimal_length zero n = omega arith
-decimal_length (suc k) n = go (ltb n 10) (decimal_length k (n / 10))
-  where
-    go : (b : Bool) → length (decimal_by k (n / 10)) ≤ k → length (whether b (λ _. []) (λ _. decimal_by k (n / 10)) ++ ((48 + n % 10) ∷ [])) ≤ suc k
-    go true h = omega arith
-    go false h = simp length-append (omega (arith, h))
+one_digit n h = rw (lt-ltb n 10 h)
 
-pub no_digits : {a : List ℕ} {at : ℕ} (k n : ℕ) → k ≡ 0 → at ≤ largest → length a ≤ largest → Wrote a a at at (decimal_by k n)
-unfolding decimal_by
-no_digits zero n e h l = nothing h l
-no_digits (suc k) n e h l = absurd (omega (arith, e))
+pub more_digits : (n : ℕ) → 10 ≤ n → n < 10 ^ 20 → decimal n ≡ decimal (n / 10) ++ ((48 + n % 10) ∷ [])
+more_digits n h l = next_digit 19 n h ∙ ap (λ ds. ds ++ ((48 + n % 10) ∷ [])) (sym (no_more_digits 19 (n / 10) (omega arith) (omega (arith, l))))
 
-module _ {a b : List ℕ} {at r : ℕ} where
-  pub last_digit : (k n : ℕ) → (k ≡ 0 → ⊥) → n < 10 → Wrote a b at r ((48 + n % 10) ∷ []) → Wrote a b at r (decimal_by k n)
-  unfolding decimal_by
-  last_digit zero n e h p = absurd (e refl)
-  last_digit (suc k) n e h p = rw (lt-ltb n 10 h) p
+pub plus : (w : ℕ) → w < 32768 → signed w ≡ decimal w
+unfolding signed
+plus w h = rw (lt-ltb w 32768 h)
 
-  pub more_digits : (k n : ℕ) → (k ≡ 0 → ⊥) → 10 ≤ n → Wrote a b at r (decimal_by (k - 1) (n / 10) ++ ((48 + n % 10) ∷ [])) → Wrote a b at r (decimal_by k n)
-  unfolding decimal_by
-  more_digits zero n e h p = absurd (e refl)
-  more_digits (suc k) n e h p = let m : suc k - 1 ≡ k = omega arith in rw (le-ltb n 10 h) (rw m at p)
+pub minus : (w : ℕ) → 32768 ≤ w → signed w ≡ (45 ∷ []) ++ decimal (65536 - w)
+unfolding signed
+minus w h = rw (le-ltb w 32768 h)
 
-  -- ---- Signed words
+-- ---- Texts added to a buffer
 
-  pub plus : (w : ℕ) → w < 32768 → Wrote a b at r (decimal w) → Wrote a b at r (signed w)
-  unfolding signed
-  plus w h p = rw (lt-ltb w 32768 h) p
+pub and_then : {a b c : Text} {u v : List ℕ} → Adds a b u → Adds b c v → Adds a c (u ++ v)
+and_then p q = record { same_buffer = q.same_buffer ∙ p.same_buffer; wrote = then p.wrote q.wrote }
 
-  pub minus : (w : ℕ) → 32768 ≤ w → Wrote a b at r ((45 ∷ []) ++ decimal (65536 - w)) → Wrote a b at r (signed w)
-  unfolding signed
-  minus w h p = rw (le-ltb w 32768 h) p
+pub adds_nothing : (a : Text) → a.len ≤ largest → length a.out.now ≤ largest → Adds a a []
+adds_nothing a h l = record { same_buffer = refl; wrote = nothing h l }
+
+pub same_added : {a b : Text} {u v : List ℕ} → u ≡ v → Adds a b u → Adds a b v
+same_added e p = rw e at p
+
+pub one_more : {a b c : Text} (text : List ℕ) (i : ℕ) → i < length text → Adds a b (take i text) → Adds b c (get_or text i 0 ∷ []) → Adds a c (take (i + 1) text)
+one_more text i h p q = same_added (sym (ap (λ n. take n text) (add-one i) ∙ take-suc text i 0 h)) (and_then p q)
+
+pub one_space : {a b c : Text} (n : ℕ) → Adds a b (replicate n 32) → Adds b c (32 ∷ []) → Adds a c (replicate (n + 1) 32)
+one_space n p q = same_added (replicate_more n 32) (and_then p q)
+
+pub ruleset for_text = (and_then, adds_nothing)
+
+pub ruleset for_signed = (plus)

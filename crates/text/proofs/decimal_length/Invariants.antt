@@ -2,7 +2,7 @@ use mathlib.Core.Path.{◌≡◌}
 use Prim.Native.Nat.{◌+◌, ◌-◌, ◌^◌, ◌<◌}
 use lib.ListN.{length}
 use Rattle.digits.specs.Digits.{decimal_by, decimal}
-use Rattle.digits.proofs.columns.decimal_length.Given as goal
+use Rattle.text.proofs.decimal_length.Given as goal
 
 -- The invariant: the digits counted, but for the first one, with those that `rest` has, are those of the number.
 abbrev pub invariant-loop-rest : goal.invariant-loop-rest
