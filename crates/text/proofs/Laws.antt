@@ -3,27 +3,22 @@ use Prim.Native.Nat.{ℕ, suc, ◌+◌, ◌-◌, ◌/◌, ◌%◌, ◌^◌, ◌�
 use mathlib.Core.Path.{◌≡◌, refl, sym, ap, ◌∙◌}
 use mathlib.Core.Bool.{Bool, true, false}
 use mathlib.Core.List.{List, [], ◌∷◌, ◌++◌}
-use native.Mathlib.Nat.{add-zero, add-suc, suc-add}
 use native.Mathlib.Numerals.{add-one}
 use native.Mathlib.Omega.{arith}
 use borrow.Author.Tests.{leb-true, leb-false, lt-ltb, le-ltb}
 use lib.Dec.{leb}
-use lib.ListN.{length, take, drop, set, get_or, replicate, length-append}
-use lib.Seq.{sets, set_out, drop-cons, length-sets, take-suc}
+use lib.ListN.{length, take, set, get_or, replicate, length-set}
+use lib.Seq.{sets, set_out, take-suc}
 use Rattle.std.proofs.lemmas.List.{replicate_more}
 use Rattle.digits.specs.Digits.{decimal_by, decimal, signed}
 use Rattle.digits.proofs.Widths.{next_digit, no_more_digits}
-use Rattle.text.specs.Wrote.{largest, Wrote}
-use Rattle.text.specs.Adds.{Adds}
+use Rattle.text.specs.Wrote.{largest, up_of, Wrote}
+use Rattle.text.specs.Adds.{added, Adds, TextLaws}
 use Rattle.text.specs.declared.Text.{Text}
 
 -- ---- Runs of stores
 
 module _ {A : Type 0} where
-  sets_append : (l : List A) (at : ℕ) (us vs : List A) → sets l at (us ++ vs) ≡ sets (sets l at us) (at + length us) vs
-  sets_append l at [] vs = rw add-zero
-  sets_append l at (u ∷ us) vs = sets_append (set l at u) (suc at) us vs ∙ rw (add-suc at (length us), suc-add at (length us))
-
   -- past the end nothing is stored
   sets_out : (l : List A) (at : ℕ) (us : List A) → length l ≤ at → sets l at us ≡ l
   sets_out l at [] h = refl
@@ -44,67 +39,67 @@ capped l n us h = go (leb n largest) refl
 
 -- ---- Texts one after another
 
-module _ {a b c : List ℕ} {at m r : ℕ} {u v : List ℕ} where
-  pub then : Wrote a b at m u → Wrote b c m r v → Wrote a c at r (u ++ v)
-  then p q =
-      let n = p.ends in
-      let k = q.ends in
-      let l = length-append u v in
-      let s = length-sets a at u in
-      let h = p.short in
-      record {
-        written = q.written ∙ ap (λ x. sets x m v) p.written ∙ ap (λ x. sets (sets a at u) x v) n ∙ capped (sets a at u) (at + length u) v (omega (arith, s, h)) ∙ sym (sets_append a at u v);
-        ends = omega (arith, n, k, l);
-        short = h;
-      }
+added_append : (t : List ℕ × ℕ) (us vs : List ℕ) → added t (us ++ vs) ≡ added (added t us) vs
+unfolding added
+added_append t [] vs = refl
+added_append t (u ∷ us) vs = added_append (set t.0 t.1 u, up_of t.1) us vs
 
-pub kept : {a b : List ℕ} {at r : ℕ} {u : List ℕ} → Wrote a b at r u → length b ≡ length a
-kept {a} {at = at} {u = u} p = ap length p.written ∙ length-sets a at u
+pub and_then : {a b c : Text} {u v : List ℕ} → Adds a b u → Adds b c v → Adds a c (u ++ v)
+and_then {a} {u = u} {v = v} p q = record { same_buffer = q.same_buffer ∙ p.same_buffer; all = q.all ∙ ap (λ t. added t v) p.all ∙ sym (added_append (a.out.now, a.len) u v) }
 
--- the same text, put in other words
-pub same_text : {a b : List ℕ} {at r : ℕ} {u v : List ℕ} → u ≡ v → Wrote a b at r u → Wrote a b at r v
-same_text e p = rw e at p
+pub adds_nothing : (a : Text) → Adds a a []
+unfolding added
+adds_nothing a = record { same_buffer = refl; all = refl }
 
-pub nothing : {a : List ℕ} {at : ℕ} → at ≤ largest → length a ≤ largest → Wrote a a at at []
-nothing h l = record { written = refl; ends = omega (arith, h); short = l }
+pub same_added : {a b : Text} {u v : List ℕ} → u ≡ v → Adds a b u → Adds a b v
+same_added e p = rw e at p
 
--- what is still to be written of a text, from an offset on
-pub record Left (a b : List ℕ) (at next : ℕ) (rest all : List ℕ) : Type 0 where
-  pub written : sets b next rest ≡ sets a at all
-  pub ends : min (next + length rest) largest ≡ min (at + length all) largest
-  pub kept : length b ≡ length a
-  pub short : length a ≤ largest
-  pub below : next ≤ largest
+pub one_more : {a b c : Text} (text : List ℕ) (i : ℕ) → i < length text → Adds a b (take i text) → Adds b c (get_or text i 0 ∷ []) → Adds a c (take (i + 1) text)
+one_more text i h p q = same_added (sym (ap (λ n. take n text) (add-one i) ∙ take-suc text i 0 h)) (and_then p q)
 
-pub begins : {a all : List ℕ} {at : ℕ} → length a ≤ largest → at ≤ largest → Left a a at at all all
-begins h k = record { written = refl; ends = refl; kept = refl; short = h; below = k }
+pub one_space : {a b c : Text} (n : ℕ) → Adds a b (replicate n 32) → Adds b c (32 ∷ []) → Adds a c (replicate (n + 1) 32)
+one_space n p q = same_added (replicate_more n 32) (and_then p q)
 
-pub goes_on : {a b c : List ℕ} {at m r : ℕ} {rest all : List ℕ} (u v : List ℕ) → rest ≡ u ++ v → Left a b at m rest all → Wrote b c m r u → Left a c at r v all
-goes_on {a} {b} {c} {m = m} {r = r} u v e p q =
-    let n = q.ends in
-    let k = p.ends in
-    let l = ap length e in
-    let o = length-append u v in
-    let s = length-sets b m u in
-    let h = q.short in
+-- what is still to be added of a text
+pub record Left (before now : Text) (rest all : List ℕ) : Type 0 where
+  pub same_buffer : now.out.ghost_name ≡ before.out.ghost_name
+  pub same_end : added (now.out.now, now.len) rest ≡ added (before.out.now, before.len) all
+
+pub begins : (a : Text) (all : List ℕ) → Left a a all all
+begins a all = record { same_buffer = refl; same_end = refl }
+
+pub goes_on : {a b c : Text} {rest all : List ℕ} (u v : List ℕ) → rest ≡ u ++ v → Left a b rest all → Adds b c u → Left a c v all
+goes_on {b = b} u v e p q =
     record {
-      written = ap (λ x. sets x r v) q.written ∙ ap (λ x. sets (sets b m u) x v) n ∙ capped (sets b m u) (m + length u) v (omega (arith, s, h)) ∙ sym (sets_append b m u v) ∙ ap (sets b m) (sym e) ∙ p.written;
-      ends = omega (arith, n, k, l, o);
-      kept = ap length q.written ∙ s ∙ p.kept;
-      short = p.short;
-      below = omega (arith, n);
+      same_buffer = q.same_buffer ∙ p.same_buffer;
+      same_end = ap (λ t. added t v) q.all ∙ sym (added_append (b.out.now, b.len) u v) ∙ ap (added (b.out.now, b.len)) (sym e) ∙ p.same_end;
     }
 
-pub is_whole : {a b : List ℕ} {at m : ℕ} {rest all : List ℕ} → rest ≡ [] → Left a b at m rest all → Wrote a b at m all
-is_whole {b = b} {m = m} e p =
-    let k = p.ends in
-    let l = ap length e in
-    let h = p.below in
-    record { written = ap (sets b m) (sym e) ∙ p.written; ends = omega (arith, k, l, h); short = p.short }
+pub is_whole : {a b : Text} {rest all : List ℕ} → rest ≡ [] → Left a b rest all → Adds a b all
+unfolding added
+is_whole {b = b} e p = record { same_buffer = p.same_buffer; all = ap (added (b.out.now, b.len)) (sym e) ∙ p.same_end }
 
--- the bytes of a lent text
-pub next_byte : (text : List ℕ) (i : ℕ) → i < length text → drop i text ≡ (get_or text i 0 ∷ []) ++ drop (i + 1) text
-next_byte text i h = rw (add-one, drop-cons text i 0 h)
+-- ---- A text's place and its end
+
+added_length : (t : List ℕ × ℕ) (us : List ℕ) → t.1 ≤ largest → (added t us).1 ≡ min (t.1 + length us) largest
+unfolding added
+added_length t [] h = omega (arith, h)
+added_length t (u ∷ us) h = added_length (set t.0 t.1 u, up_of t.1) us (omega arith) ∙ omega (arith, h)
+
+added_stored : (t : List ℕ × ℕ) (us : List ℕ) → length t.0 ≤ largest → (added t us).0 ≡ sets t.0 t.1 us
+unfolding added
+added_stored t [] h = refl
+added_stored t (u ∷ us) h =
+    let l = length-set t.0 t.1 u in
+    added_stored (set t.0 t.1 u, up_of t.1) us (omega (arith, l, h)) ∙ capped (set t.0 t.1 u) (t.1 + 1) us (omega (arith, l, h)) ∙ ap (λ n. sets (set t.0 t.1 u) n us) (add-one t.1)
+
+pub stands : (before after : Text) (text : List ℕ) → before.len ≤ largest → length before.out.now ≤ largest → Adds before after text
+    → Wrote before.out.now after.out.now before.len after.len text
+stands before after text h l p =
+    record { written = ap (λ t. t.0) p.all ∙ added_stored (before.out.now, before.len) text l; ends = ap (λ t. t.1) p.all ∙ added_length (before.out.now, before.len) text h; short = l }
+
+pub text_laws : TextLaws
+text_laws = record { stands = stands }
 
 -- ---- Numbers, by their cases
 
@@ -123,23 +118,12 @@ pub minus : (w : ℕ) → 32768 ≤ w → signed w ≡ (45 ∷ []) ++ decimal (6
 unfolding signed
 minus w h = rw (le-ltb w 32768 h)
 
--- ---- Texts added to a buffer
+pub ruleset for_text = (and_then)
 
-pub and_then : {a b c : Text} {u v : List ℕ} → Adds a b u → Adds b c v → Adds a c (u ++ v)
-and_then p q = record { same_buffer = q.same_buffer ∙ p.same_buffer; wrote = then p.wrote q.wrote }
-
-pub adds_nothing : (a : Text) → a.len ≤ largest → length a.out.now ≤ largest → Adds a a []
-adds_nothing a h l = record { same_buffer = refl; wrote = nothing h l }
-
-pub same_added : {a b : Text} {u v : List ℕ} → u ≡ v → Adds a b u → Adds a b v
-same_added e p = rw e at p
-
-pub one_more : {a b c : Text} (text : List ℕ) (i : ℕ) → i < length text → Adds a b (take i text) → Adds b c (get_or text i 0 ∷ []) → Adds a c (take (i + 1) text)
-one_more text i h p q = same_added (sym (ap (λ n. take n text) (add-one i) ∙ take-suc text i 0 h)) (and_then p q)
-
-pub one_space : {a b c : Text} (n : ℕ) → Adds a b (replicate n 32) → Adds b c (32 ∷ []) → Adds a c (replicate (n + 1) 32)
-one_space n p q = same_added (replicate_more n 32) (and_then p q)
-
-pub ruleset for_text = (and_then, adds_nothing)
+pub ruleset for_start = (adds_nothing)
 
 pub ruleset for_signed = (plus)
+
+pub ruleset for_text_laws = (text_laws)
+
+pub ruleset for_lines = (begins, goes_on, is_whole)

@@ -5,12 +5,16 @@
 
 ghost use Rattle.std.specs.Prelude.{◌≡◌, ◌+◌, ◌-◌, ◌%◌, length, replicate, [], ◌∷◌};
 ghost use Rattle.digits.specs.Digits.{octal, decimal_by, decimal, signed, left_in, right_in};
-ghost use Rattle.text.specs.Adds.{Adds};
+ghost use Rattle.text.specs.Adds.{Adds, TextLaws};
+
+// The first number of two digits.
+const TWO_DIGITS: usize = 10;
 
 // The first word that is negative as a signed number.
 const SIGN: u16 = 32768;
 
 // A lent buffer, and the length of the text that stands at its start.
+#[derive(Drop)]
 pub struct Text<'a> {
     pub out: &'a mut [u8],
     pub len: usize,
@@ -25,7 +29,8 @@ impl<'a> Text<'a> {
         Text { out, len: 0 }
     }
 
-    fn byte(&mut self, byte: u8)
+    #[tactic(auto, unfolding(crate::specs::Adds::added))]
+    pub fn byte(&mut self, byte: u8)
         ensures { Adds self.old self.new (byte ∷ []) }
     {
         if self.len < self.out.len() {
@@ -34,6 +39,7 @@ impl<'a> Text<'a> {
         self.len = self.len.saturating_add(1);
     }
 
+    #[tactic(auto, using(crate::proofs::Laws::for_start))]
     pub fn put(&mut self, bytes: &[u8])
         ensures { Adds self.old self.new bytes.now }
     {
@@ -42,6 +48,7 @@ impl<'a> Text<'a> {
         }
     }
 
+    #[tactic(auto, using(crate::proofs::Laws::for_start))]
     pub fn spaces(&mut self, count: usize)
         ensures { Adds self.old self.new (replicate count 32) }
     {
@@ -58,7 +65,6 @@ impl<'a> Text<'a> {
     }
 
     // The six lowest octal digits (P3).
-    #[tactic(auto, using(crate::proofs::Laws::for_text), unfolding(digits::specs::Digits::octal_by))]
     pub fn octal(&mut self, n: usize)
         ensures { Adds self.old self.new (octal n) }
     {
@@ -78,7 +84,7 @@ impl<'a> Text<'a> {
     pub fn decimal(&mut self, n: usize)
         ensures { Adds self.old self.new (decimal n) }
     {
-        if 10 <= n {
+        if TWO_DIGITS <= n {
             self.decimal(n / 10);
         }
         self.byte((48 + n % 10) as u8);
@@ -134,3 +140,9 @@ fn decimal_length(n: usize) -> usize
     }
     count
 }
+
+// A text that is added stands where the length was, as far as the buffer goes: this function carries the theorem as its contract.
+#[tactic(auto, using(crate::proofs::Laws::for_text_laws))]
+pub fn text_laws()
+    ensures { TextLaws }
+{}
