@@ -3,6 +3,9 @@ use Rattle.std.specs.Prelude.{ℕ, ◌≤◌, ◌≡◌, List, ◌++◌, length}
 use Rattle.std.proofs.lemmas.List.Edits.{sets}
 use Rattle.digits.specs.Digits.{octal, decimal}
 use Rattle.prelude.specs.Text.{bytes}
+use Rattle.text.specs.Wrote.{largest}
+use Rattle.text.specs.Adds.{Adds}
+use Rattle.text.specs.declared.Text.{Text}
 use Rattle.tree.specs.Tree.{Program}
 use Rattle.compilation.specs.Compile.{Result}
 use Rattle.compilation.specs.Listing.{line, listing_def}
@@ -27,6 +30,12 @@ abbrev pub result_for : Program → Answer → List ℕ → Result
 result_for program (Accepted entry words globals) image =
     Result.accepted (record { program = program; image = image; entry = entry; words = words; globals = globals })
 result_for program (Failed number at) image = Result.failed number at
+
+-- the listing is added, and is shorter than the largest offset
+abbrev pub AddsListing : Answer → List ℕ → Text → Text → Type 0
+AddsListing answer image before after =
+    (program : Program)
+    → Adds before after (listing_def (result_for program answer image)) × (length (listing_def (result_for program answer image)) ≤ largest)
 
 -- the listing stands at the buffer's start, as far as it goes, and its length is answered
 abbrev pub Listed : Answer → List ℕ → List ℕ → List ℕ → ℕ → Type 0
