@@ -1,4 +1,3 @@
 -- What the proofs of several crates use.
-pub mod ConstantLaws
 pub mod StartNames
 pub mod StartLaws

@@ -1,6 +1,6 @@
 -- The tables that a token's kind is looked up in: the words that open a statement, and the unary words, whose kinds are consecutive.
 use Prim.Native.Nat.{ℕ, suc, ◌+◌, ◌≤◌, ◌<◌}
-use mathlib.Core.Path.{◌≡◌, refl}
+use mathlib.Core.Path.{◌≡◌, refl, ◌∙◌}
 use mathlib.Core.Bool.{Bool, true, false}
 use mathlib.Core.List.{List, [], ◌∷◌}
 use mathlib.Core.Option.{some}
@@ -13,7 +13,8 @@ use Rattle.prelude.specs.Choice.{whether, given, find}
 use Rattle.source.specs.Kinds
 use Rattle.source.specs.declared.Token.{Token}
 use Rattle.tree.specs.Symbols.{Names}
-use Rattle.grammar.specs.Parse.{and_then, fail_at}
+use Rattle.grammar.specs.Parse.{Got, and_then, fail_at}
+use Rattle.parser.proofs.Answers.{refused_any}
 use Rattle.grammar.specs.Vocabulary.{unaries}
 use Rattle.grammar.specs.Cells.{refuse}
 use Rattle.grammar.specs.Expressions.{term_start, too_deep_expr}
@@ -25,6 +26,12 @@ pub no_opening :
 unfolding opening find
 no_opening t a h i w l f b =
     simp (ne_eqb _ _ a, ne_eqb _ _ h, ne_eqb _ _ i, ne_eqb _ _ w, ne_eqb _ _ l, ne_eqb _ _ f, ne_eqb _ _ b)
+
+-- so it fails as a token that nothing begins with
+pub refused_opening :
+    (t : Token) → {k at : ℕ} → refuse {A = ℕ} t ≡ Got.failed k at → (t.kind ≡ Kinds.at → ⊥) → (t.kind ≡ Kinds.hash → ⊥) → (t.kind ≡ Kinds.IF → ⊥) → (t.kind ≡ Kinds.WHEN → ⊥)
+    → (t.kind ≡ Kinds.WHILE → ⊥) → (t.kind ≡ Kinds.FOR → ⊥) → (t.kind ≡ Kinds.BEGIN → ⊥) → opening t ≡ Got.failed k at
+refused_opening t e a h i w l f b = no_opening t a h i w l f b ∙ refused_any t e
 
 -- ---- Rows whose keys count from a number on
 
@@ -66,5 +73,3 @@ module _ (source : List ℕ) (names : Names) (t : Token) where
   pub deep_term : (t.kind ≡ Kinds.IF → ⊥) → (t.kind < Kinds.ADDC) ⊎ (Kinds.ADDC + length unaries ≤ t.kind) → too_deep_expr source names t ≡ and_then (term_start source names t) (λ _ _. fail_at t 9)
   unfolding too_deep_expr
   deep_term n o = rw (ne_eqb t.kind Kinds.IF n) (out_of_rows _ _ t.kind counted_unaries o)
-
-pub ruleset for_opening_of = (no_opening)

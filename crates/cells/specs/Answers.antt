@@ -1,5 +1,8 @@
 -- What the code's answers stand for in the definitions.
-use Rattle.tree.specs.Tree as tree
+use Rattle.std.specs.Prelude.{ℕ, Bool, ◌<◌, ◌≡◌}
+use Rattle.tree.specs.Symbols.{Names}
+use Rattle.symbols.specs.Table.{live_names}
+use Rattle.cells.specs.declared.Reader.{Reader}
 use Rattle.grammar.specs.Cells as cells
 use Rattle.grammar.specs.Expressions as expressions
 use Rattle.grammar.specs.Statements as statements
@@ -8,12 +11,13 @@ use Rattle.cells.specs.declared.CellStart.{CellStart}
 use Rattle.cells.specs.declared.TermStart.{TermStart}
 use Rattle.cells.specs.declared.StatementStart.{StatementStart}
 
--- the values of a failed operand and cell
-abbrev pub no_operand : tree.Operand
-no_operand = tree.Operand.literal 0
+-- a reader's live names
+abbrev pub live : Reader → Names
+live r = live_names r.names.count r.names.words.now
 
-abbrev pub no_cell : tree.Cell
-no_cell = tree.Cell.plain no_operand
+-- a test of words answers as a predicate says
+abbrev pub Tells : (ℕ → Bool → Type 0) → (ℕ → Bool) → Type 0
+Tells post passes = (v : ℕ) → v < 65536 → (b : Bool) → post v b → b ≡ passes v
 
 unfoldable pub tree_cell_start : CellStart → cells.CellStart
 tree_cell_start (CellStart.Whole o) = cells.CellStart.operand (tree_operand o)

@@ -1,30 +1,37 @@
 // Parsing of constants, cells and the first token of a term or statement: each as its definition in grammar, from an offset.
-// An answer is a part and a value, which is a fixed one where the part failed. Here: the types, and constants.
+// Here: the types, and constants.
 #![tactic(auto)]
 
-ghost use Rattle.std.specs.Prelude.{◌≡◌, leb};
+ghost use Rattle.std.specs.Prelude.{◌≡◌, ◌<◌, ℕ, Bool, leb};
 ghost use Rattle.prelude.specs.Choice.{between};
 ghost use Rattle.grammar.specs.Cells.{parse_constant, parse_in_range};
 ghost use Rattle.grammar.specs.Declarations.{size_of};
-ghost use Rattle.symbols.specs.Table.{live_names};
-ghost use Rattle.parser.specs.Answers.{read_or};
+ghost use Rattle.parser.specs.Reads.{Gives};
+ghost use Rattle.cells.specs.Answers.{live, Tells};
 
-use parser::{Part, fail_at, failures, refused};
+use parser::{Cause, Part, Read, fail_at, refused};
 use source::token_at;
-use symbols::lookup::lookup;
-use symbols::{Array, Id, Operand, Symbol};
+use symbols::{Array, Id, Names, Operand, Symbol};
 
 pub mod cell;
 pub mod starts;
 
-// How a cell begins: with an operand, which is all of it, or with an array's name.
-#[derive(Drop)]
+/// What each function that reads a part is given: the source, and the names that are live in it.
+#[derive(Clone, Copy, Debug)]
+pub struct Reader<'a> {
+    pub source: &'a [u8],
+    pub names: Names<'a>,
+}
+
+/// How a cell begins: with an operand, which is all of it, or with an array's name.
+#[derive(Clone, Copy, Debug, PartialEq, Eq)]
 pub enum CellStart {
     Whole { operand: Operand },
     Element { array: Array },
 }
 
-#[derive(Drop)]
+/// How a term begins.
+#[derive(Clone, Copy, Debug, PartialEq, Eq)]
 pub enum TermStart {
     Cell { start: CellStart },
     Accumulator,
@@ -33,7 +40,8 @@ pub enum TermStart {
     Call { number: u16 },
 }
 
-#[derive(Drop)]
+/// How a statement begins.
+#[derive(Clone, Copy, Debug, PartialEq, Eq)]
 pub enum StatementStart {
     Integer { id: Id },
     Element { array: Array },
@@ -47,50 +55,7 @@ pub enum StatementStart {
     Call { number: u16 },
 }
 
-#[derive(Drop)]
-pub struct ConstantAnswer {
-    pub part: Part,
-    pub value: u16,
-}
-
-// A numeral, or a name that has a value (D12).
-pub fn constant_at(source: &[u8], table: &[u16], names: usize, at: usize) -> ConstantAnswer
-    ensures { (result.part, result.value) ≡ read_or 0 (parse_constant source.now (live_names names table.now) at) }
-{
-    let t = token_at(source, at);
-    let part = Part::Read { next: t.next };
-    let symbol = lookup(source, table, names, t);
-    match symbol {
-        Symbol::Constant { id: _, value } => ConstantAnswer { part, value },
-        Symbol::Compconstant { value } => ConstantAnswer { part, value },
-        _ => ConstantAnswer {
-            part: refused(t),
-            value: 0,
-        },
-    }
-}
-
-// A shift's amount (E7).
-pub fn amount_at(source: &[u8], table: &[u16], names: usize, at: usize) -> ConstantAnswer
-    ensures { (result.part, result.value) ≡ read_or 0 (parse_in_range source.now (live_names names table.now) (between 1 15) at) }
-{
-    let read = constant_at(source, table, names, at);
-    let part = read.part;
-    let Part::Read { next: _ } = part else {
-        return read;
-    };
-    if 1 <= read.value {
-        if read.value <= 15 {
-            return read;
-        }
-    }
-    ConstantAnswer {
-        part: fail_at(token_at(source, at), failures::OUT_OF_RANGE),
-        value: 0,
-    }
-}
-
-// The size that a constant gives: how far it is from 0, taken as signed (D6).
+/// The size that a constant gives: how far it is from 0, taken as signed (D6).
 #[tactic(auto, unfolding(grammar::specs::Declarations::size_of))]
 pub fn size_of(value: u16) -> u16
     ensures { result ≡ size_of value }
@@ -101,21 +66,53 @@ pub fn size_of(value: u16) -> u16
     65535 - value + 1
 }
 
-// The constant that gives an array's size (D6).
-pub fn size_at(source: &[u8], table: &[u16], names: usize, at: usize) -> ConstantAnswer
-    ensures { (result.part, result.value)
-        ≡ read_or 0 (parse_in_range source.now (live_names names table.now) (λ v. leb (size_of v) 8192) at) }
-{
-    let read = constant_at(source, table, names, at);
-    let part = read.part;
-    let Part::Read { next: _ } = part else {
-        return read;
-    };
-    if size_of(read.value) <= 8192 {
-        return read;
+impl Reader<'_> {
+    /// A numeral, or a name that has a value (D12).
+    #[tactic(auto, using(parser::proofs::Answers::refused_any, crate::proofs::StartNames::constant_is, crate::proofs::StartNames::no_constant), unfolding(grammar::specs::Cells::parse_constant, tree::specs::Symbols::as_constant, symbols::specs::Trees::tree_symbol))]
+    pub fn constant_at(&self, at: usize) -> Read<u16>
+        ensures { Gives (λ v. v) result (parse_constant self.now.source.now (live self.now) at) }
+    {
+        let t = token_at(self.source, at);
+        match self.names.lookup(self.source, t) {
+            Symbol::Constant { id: _, value } => Ok(Part {
+                value,
+                next: t.next,
+            }),
+            Symbol::Compconstant { value } => Ok(Part {
+                value,
+                next: t.next,
+            }),
+            _ => Err(refused(t)),
+        }
     }
-    ConstantAnswer {
-        part: fail_at(token_at(source, at), failures::OUT_OF_RANGE),
-        value: 0,
+
+    // A constant that passes, else failure 5 at its token (F5).
+    #[tactic(auto, unfolding(grammar::specs::Cells::parse_in_range, grammar::specs::Parse::and_then, grammar::specs::Parse::fail_at))]
+    fn constant_that<F: Fn(u16) -> bool>(&self, at: usize, passes: F) -> Read<u16>
+        requires { F.IsAlwaysCallable passes }
+        ensures { (in_range : ℕ → Bool) → Tells (F.post passes) in_range → Gives (λ v. v) result (parse_in_range self.now.source.now (live self.now) in_range at) }
+    {
+        let read = self.constant_at(at);
+        let Ok(Part { value, next: _ }) = read else {
+            return read;
+        };
+        if passes(value) {
+            return read;
+        }
+        Err(fail_at(token_at(self.source, at), Cause::OutOfRange))
+    }
+
+    /// A shift's amount (E7).
+    pub fn amount_at(&self, at: usize) -> Read<u16>
+        ensures { Gives (λ v. v) result (parse_in_range self.now.source.now (live self.now) (between 1 15) at) }
+    {
+        self.constant_that(at, |value| (1..=15).contains(&value))
+    }
+
+    /// The constant that gives an array's size (D6).
+    pub fn size_at(&self, at: usize) -> Read<u16>
+        ensures { Gives (λ v. v) result (parse_in_range self.now.source.now (live self.now) (λ v. leb (size_of v) 8192) at) }
+    {
+        self.constant_that(at, |value| size_of(value) <= 8192)
     }
 }

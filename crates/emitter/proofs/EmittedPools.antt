@@ -1,12 +1,19 @@
 -- The literal pool as the code keeps it: up to 512 words, the count of those that it holds, and the place of a value among them.
 use Prim.Native.Nat.{ℕ, zero, suc, ◌+◌, ◌≤◌, ◌<◌}
 use mathlib.Core.Path.{◌≡◌, refl, sym, ap, ◌∙◌}
+use mathlib.Core.Bool.{Bool, true, false, cond}
 use mathlib.Core.List.{List, [], ◌∷◌, ◌++◌}
+use Rattle.prelude.specs.Choice.{whether}
 use native.Mathlib.Numerals.{add-one}
 use native.Mathlib.Omega.{arith}
-use borrow.Author.Tests.{lt-ltb, le-ltb, eq-eqb, ne_eqb}
-use lib.ListN.{length, get_or, set, take, drop, length-append, drop_of_length-le}
-use lib.Seq.{take_all, take_at, take-suc-set, drop-cons, get_or-take}
+use borrow.Author.Tests.{ltb-false, lt-ltb, le-ltb}
+use lib.ListN.{length, set, take, length-append}
+use lib.Seq.{take_all, take_at, take-suc-set}
+use Rattle.std.specs.List.{position_or_len}
+use Rattle.std.proofs.Common.{Option, Some, None}
+use Rattle.std.specs.Option.{unwrap_or}
+use Rattle.std.proofs.lemmas.List.Recursion.{is_position_or_len}
+use lib.Dec.{eqb, ltb}
 use Rattle.layout.specs.Pool.{index_of, added}
 use Rattle.layout.specs.Emission.{with_literal}
 
@@ -18,32 +25,30 @@ counted (suc n) (x ∷ w) = ap (λ l. x ∷ l) (counted n w)
 
 -- ---- The place of a value
 
--- a search that has come to `i` without the value
-module _ (n : ℕ) (w : List ℕ) (v k i : ℕ) (held : k ≡ length (take n w)) (so_far : index_of (take k w) v ≡ i + index_of (drop i (take k w)) v) where
-  same : take k w ≡ take n w
-  same = ap (λ j. take j w) held ∙ counted n w
+-- it is the first position at which the value stands
+positioned : (v : ℕ) (l : List ℕ) → index_of l v ≡ position_or_len (λ x. eqb x v) l
+unfolding index_of
+positioned v l = is_position_or_len (λ l. index_of l v) (λ x. eqb x v) refl (λ x xs. step (eqb x v) (index_of xs v)) l
+  where
+    step : (b : Bool) (n : ℕ) → whether b (λ _. 0) (λ _. suc n) ≡ cond b 0 (1 + n)
+    step true n = refl
+    step false n = omega arith
 
-  long : length (take k w) ≡ k
-  long = ap length same ∙ sym held
+pub index_within : (v : ℕ) (l : List ℕ) → index_of l v ≤ length l
+unfolding index_of
+index_within v [] = omega arith
+index_within v (x ∷ xs) = let h = index_within v xs in go (eqb x v) h
+  where
+    go : (b : Bool) → index_of xs v ≤ length xs → whether b (λ _. 0) (λ _. suc (index_of xs v)) ≤ suc (length xs)
+    go true h = omega arith
+    go false h = omega (arith, h)
 
-  pub found : i < k → get_or w i 0 ≡ v → i ≡ index_of (take n w) v
-  unfolding index_of
-  found h e =
-      let z : index_of (drop i (take k w)) v ≡ 0 = rw (drop-cons (take k w) i 0 (omega (arith, long)), eq-eqb _ _ (get_or-take k w i 0 h ∙ e)) in
-      rw (← same) (omega arith)
-
-  pub passed : i < k → (get_or w i 0 ≡ v → ⊥) → index_of (take k w) v ≡ i + 1 + index_of (drop (i + 1) (take k w)) v
-  unfolding index_of
-  passed h n =
-      let z : index_of (drop i (take k w)) v ≡ suc (index_of (drop (i + 1) (take k w)) v) =
-      rw (add-one, drop-cons (take k w) i 0 (omega (arith, long)), ne_eqb _ _ (λ q. n (sym (get_or-take k w i 0 h) ∙ q))) in
-      omega arith
-
-  pub missed : i ≤ k → k ≤ i → i ≡ index_of (take n w) v
-  unfolding index_of
-  missed l h =
-      let z : index_of (drop i (take k w)) v ≡ 0 = rw (drop_of_length-le (take k w) {i = i} (omega (arith, long))) in
-      rw (← same) (omega arith)
+pub placed : (l : List ℕ) (v : ℕ) {r : Option ℕ} → r ≡ cond (ltb (position_or_len (λ x. eqb x v) l) (length l)) (Some (position_or_len (λ x. eqb x v) l)) None → unwrap_or r (length l) ≡ index_of l v
+placed l v e = rw (e, positioned v l) (go (ltb (position_or_len (λ x. eqb x v) l) (length l)) refl)
+  where
+    go : (b : Bool) → ltb (position_or_len (λ x. eqb x v) l) (length l) ≡ b → unwrap_or (cond b (Some (position_or_len (λ x. eqb x v) l)) None) (length l) ≡ position_or_len (λ x. eqb x v) l
+    go true q = refl
+    go false q = let h = ltb-false _ _ q in let m = index_within v l in let n = positioned v l in omega (arith, h, m, n)
 
 -- ---- A value more
 
@@ -63,5 +68,3 @@ module _ (p : List ℕ) (v i n : ℕ) (held : n ≡ length p) (place : i ≡ ind
 -- with a word after those that it holds
 pub appended : (n : ℕ) (w : List ℕ) (v k : ℕ) → k ≡ length (take n w) → k < length w → take (k + 1) (set w k v) ≡ take n w ++ (v ∷ [])
 appended n w v k e h = rw add-one (take-suc-set w k v h ∙ ap (λ l. l ++ (v ∷ [])) (ap (λ j. take j w) e ∙ counted n w))
-
-pub ruleset for_index_of = (found, passed, missed)

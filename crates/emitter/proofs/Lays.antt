@@ -14,7 +14,7 @@ use Rattle.layout.specs.Words.{Sym, ◌⧺◌}
 use Rattle.layout.specs.Pool.{literal_of}
 use Rattle.layout.specs.Map.{reference, word_of}
 use Rattle.layout.specs.Emission.{Emitted, last_address, next_address, with_word, with_literals, Bases, frame_of, emit_word, emit_all}
-use Rattle.emitter.specs.Lays.{WordsAt, Kept, Lays, ForwardJump, filled}
+use Rattle.emitter.specs.Lays.{WordsAt, Kept, KeptImage, Lays, ForwardJump, filled}
 
 -- ---- Runs of words
 
@@ -89,6 +89,17 @@ kept_then p q =
       below = λ k h. q.below k (omega (arith, p.grows, h)) ∙ p.below k h;
       grows = omega (arith, p.grows, q.grows);
     }
+
+-- of a failed part's image: as it was, after a part that was kept, and after another
+pub here : {a : Emitted} → KeptImage a a.image
+here = record { long = refl; below = λ at l. refl }
+
+pub of_kept : {a b : Emitted} → Kept a b → KeptImage a b.image
+of_kept p = record { long = p.long; below = p.below }
+
+pub kept_image : {a b : Emitted} {image : List ℕ} → Kept a b → KeptImage b image → KeptImage a image
+kept_image p q =
+    record { long = q.long ∙ p.long; below = λ at h. q.below at (omega (arith, p.grows, h)) ∙ p.below at h }
 
 -- a store at the address or above
 pub kept_set : {a b : Emitted} (i v : ℕ) → a.next ≤ i → Kept a b → Kept a (record { image = set b.image i v; next = b.next; pool = b.pool })

@@ -15,6 +15,11 @@ pub record Kept (a b : Emitted) : Type 0 where
   pub below : (k : ℕ) → k < a.next → get_or b.image k 0 ≡ get_or a.image k 0
   pub grows : a.next ≤ b.next
 
+-- what a part that failed keeps of the image, where it answers no output
+pub record KeptImage (a : Emitted) (image : List ℕ) : Type 0 where
+  pub long : length image ≡ length a.image
+  pub below : (at : ℕ) → at < a.next → get_or image at 0 ≡ get_or a.image at 0
+
 -- from a to b the words w are emitted. Where b is at the last address, so many words or more were to be emitted, and of the image only what is kept is said: a sector that is judged then fails
 pub record Lays (f : Bases) (a b : Emitted) (w : WordsAt) : Type 0 where
   pub kept : Kept a b

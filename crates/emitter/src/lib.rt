@@ -11,7 +11,7 @@ ghost use Rattle.layout.specs.Addresses.{sector_words, saved_word, first_global}
 ghost use Rattle.layout.specs.Words.{Sym, load_words, above_words, below_words, test_words, reach_words, instruction_word, cell_words};
 ghost use Rattle.layout.specs.Pool.{index_of, literal_of};
 ghost use Rattle.layout.specs.Map as map;
-ghost use Rattle.layout.specs.Emission.{next_address, frame_of};
+ghost use Rattle.layout.specs.Emission.{frame_of};
 ghost use Rattle.emitter.specs.Emitted.{literals_in, bases_of, no_pool, Takes, Puts, Emits};
 ghost use Rattle.emitter.specs.Lays.{filled};
 
@@ -37,89 +37,82 @@ const HIGHEST: u16 = 65535;
 const POOL_WORDS: usize = addresses::SECTOR_WORDS as usize;
 
 // The literal pool of the open sector, in order of first use (A7); the first `count` words count.
-#[derive(Clone, Copy)]
+#[derive(Debug, Clone, Copy, PartialEq, Eq)]
 pub struct Pool {
     pub words: [u16; POOL_WORDS],
     pub count: usize,
 }
 
-// What is emitted so far, but for the image: the address of the next word, and the pool.
-#[derive(Clone, Copy)]
+impl Pool {
+    #[tactic(auto, unfolding(crate::specs::Emitted::no_pool))]
+    pub fn empty() -> Pool
+        ensures { result ≡ no_pool }
+    {
+        Pool {
+            words: [0u16; POOL_WORDS],
+            count: 0,
+        }
+    }
+
+    // How many words it holds: all, where its count is above them.
+    pub fn held_count(self) -> usize
+        ensures { (result ≡ length (literals_in self)) × (result ≤ sector_words) }
+    {
+        self.count.min(POOL_WORDS)
+    }
+
+    // The place of a value, or how many words it holds.
+    fn index_of(self, value: u16) -> usize
+        ensures { (result ≡ index_of (literals_in self) value) × (result ≤ sector_words) }
+    {
+        let held = &self.words[..self.held_count()];
+        held.iter()
+            .position(|word| *word == value)
+            .unwrap_or(held.len())
+    }
+
+    // With a value, once. A full pool stays as it is.
+    fn with(self, value: u16) -> Pool
+        ensures { Takes self (value ∷ []) result }
+    {
+        let count = self.held_count();
+        if self.index_of(value) < count {
+            return self;
+        }
+        if count < POOL_WORDS {
+            let mut next = self;
+            next.words[count] = value;
+            next.count = count + 1;
+            return next;
+        }
+        self
+    }
+
+    // With an operand's literal, if it is one.
+    #[tactic(auto, unfolding(layout::specs::Emission::with_literals, crate::specs::Emitted::pooled_all, layout::specs::Pool::literal_of, symbols::specs::Trees::tree_operand))]
+    fn with_operand(self, operand: Operand) -> Pool
+        ensures { Takes self (literal_of (Sym.memory 0 (tree_operand operand)) []) result }
+    {
+        match operand {
+            Operand::Named { id: _ } => self,
+            Operand::Literal { value } => self.with(value),
+        }
+    }
+}
+
+// What is emitted so far, but for the image: the address of the next word, and the pool. The image is lent beside it:
+// the pool is handed on by value from form to form, and a form that fails could not hand the image back.
+#[derive(Debug, Clone, Copy, PartialEq, Eq)]
 pub struct Output {
     pub next: u16,
     pub pool: Pool,
 }
 
-// What a body is compiled under: the count of live names, the address of its sector's pool, and of its procedure's first local.
-#[derive(Clone, Copy)]
+// What a body is compiled under: the address of its sector's pool, and of its procedure's first local.
+#[derive(Debug, Clone, Copy, PartialEq, Eq)]
 pub struct Context {
-    pub names: usize,
     pub pool: u16,
     pub locals: u16,
-}
-
-#[tactic(auto, unfolding(crate::specs::Emitted::no_pool))]
-pub fn empty_pool() -> Pool
-    ensures { result ≡ no_pool }
-{
-    Pool {
-        words: [0u16; POOL_WORDS],
-        count: 0,
-    }
-}
-
-// How many words a pool holds: all, where its count is above them.
-pub fn held_count(pool: Pool) -> usize
-    ensures { (result ≡ length (literals_in pool)) × (result ≤ sector_words) }
-{
-    let count = pool.count;
-    if POOL_WORDS < count {
-        POOL_WORDS
-    } else {
-        count
-    }
-}
-
-// The place of a value in a pool, or how many words it holds.
-#[tactic(auto, using(crate::proofs::EmittedPools::for_index_of))]
-fn index_of(pool: Pool, value: u16) -> usize
-    ensures { (result ≡ index_of (literals_in pool) value) × (result ≤ sector_words) }
-{
-    let words = pool.words;
-    let count = held_count(pool);
-    let mut i = 0;
-    while i < count {
-        if words[i] == value {
-            return i;
-        }
-        i += 1;
-    }
-    i
-}
-
-// The pool with a value, once. A full pool stays as it is.
-fn with_literal(pool: Pool, value: u16) -> Pool
-    ensures { Takes pool (value ∷ []) result }
-{
-    let count = held_count(pool);
-    if index_of(pool, value) < count {
-        return pool;
-    }
-    if count < POOL_WORDS {
-        let mut next = pool;
-        next.words[count] = value;
-        next.count = count + 1;
-        return next;
-    }
-    pool
-}
-
-// The address after another, up to the last.
-#[tactic(auto, unfolding(layout::specs::Emission::next_address))]
-fn next_address(at: u16) -> u16
-    ensures { result ≡ next_address at }
-{
-    if at < LAST_ADDRESS { at + 1 } else { at }
 }
 
 // Outside of the image nothing is stored.
@@ -132,19 +125,18 @@ pub fn store(image: &mut [u16], at: usize, word: u16)
 }
 
 // A word at the next address.
-#[tactic(auto, unfolding(layout::specs::Emission::with_word))]
+#[tactic(auto, unfolding(layout::specs::Emission::with_word, layout::specs::Emission::next_address))]
 fn emit_word(image: &mut [u16], output: Output, word: u16) -> Output
     ensures { Puts output image.old result image.new word }
 {
-    let at = output.next;
-    let pool = output.pool;
-    store(image, at as usize, word);
+    store(image, output.next as usize, word);
     Output {
-        next: next_address(at),
-        pool,
+        next: output.next.saturating_add(1),
+        pool: output.pool,
     }
 }
 
+// Opcodes, slots and kinds of shift are numbers: each form is promised for any number.
 // The word of an instruction on an address: LDX has its tag set, and an address outside of sector 0 its sector bit (I2, A10).
 #[tactic(auto, unfolding(layout::specs::Map::reference))]
 fn reference(opcode: u16, indirect: bool, address: u32) -> u16
@@ -179,6 +171,7 @@ pub fn emit_shift(image: &mut [u16], output: Output, kind: u16, amount: u16) -> 
     emit_word(image, output, instruction::encode_shift(kind, amount))
 }
 
+// Four forms of reference that the words name apart: through a global, a jump, a return, and on the kept word.
 // An instruction that goes indirectly through a global word.
 pub fn emit_through(image: &mut [u16], output: Output, opcode: u16, number: u16) -> Output
     ensures { Puts output image.old result image.new (map.reference opcode true (first_global + number)) }
@@ -240,18 +233,7 @@ fn address_of(context: Context, pool: Pool, operand: Operand) -> u32
 {
     match operand {
         Operand::Named { id } => id_address(context, id),
-        Operand::Literal { value } => context.pool as u32 + index_of(pool, value) as u32,
-    }
-}
-
-// The pool with an operand's literal, if it is one.
-#[tactic(auto, unfolding(layout::specs::Emission::with_literals, crate::specs::Emitted::pooled_all, layout::specs::Pool::literal_of, symbols::specs::Trees::tree_operand))]
-fn with_operand(pool: Pool, operand: Operand) -> Pool
-    ensures { Takes pool (literal_of (Sym.memory 0 (tree_operand operand)) []) result }
-{
-    match operand {
-        Operand::Named { id: _ } => pool,
-        Operand::Literal { value } => with_literal(pool, value),
+        Operand::Literal { value } => context.pool as u32 + pool.index_of(value) as u32,
     }
 }
 
@@ -265,13 +247,11 @@ pub fn emit_memory(
 ) -> Output
     ensures { Emits (bases_of context) output image.old result image.new (Sym.memory opcode (tree_operand operand) ∷ []) }
 {
-    let at = output.next;
-    let held = output.pool;
-    let pool = with_operand(held, operand);
+    let pool = output.pool.with_operand(operand);
     let address = address_of(context, pool, operand);
     emit_word(
         image,
-        Output { next: at, pool },
+        Output { pool, ..output },
         reference(opcode, false, address),
     )
 }
@@ -325,7 +305,7 @@ fn emit_below(image: &mut [u16], context: Context, output: Output, lowest: u16) 
 fn lowest_of(array: Array) -> u16
     ensures { result ≡ lowest (tree_array array) }
 {
-    ((65536 - array.size as u32) % 65536) as u16
+    0u16.wrapping_sub(array.size)
 }
 
 // The test of X as a subscript of an array (W19).

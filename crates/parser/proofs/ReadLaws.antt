@@ -1,6 +1,7 @@
 -- The laws of `Reads`: what is known after a call of a function that reads, how a part becomes a part of another, and parts in turn.
 use Prim.Native.Nat.{ℕ, zero, suc, ◌-◌}
-use mathlib.Core.Path.{◌≡◌, refl, sym, ap, ap₂, ◌∙◌}
+use Rattle.std.specs.Prelude.{Result, Ok, Err}
+use mathlib.Core.Path.{subst, ◌≡◌, refl, sym, ap, ◌∙◌}
 use mathlib.Core.List.{List}
 use mathlib.Core.Option.{Option, none, some}
 use native.Mathlib.Omega.{arith}
@@ -11,10 +12,11 @@ use Rattle.source.specs.Tokens.{token_at}
 use Rattle.grammar.specs.Parse.{Got, and_then, repeat_by, repeat, more_separated, separated}
 use Rattle.grammar.specs.Parse.Got.{got, failed}
 use Rattle.parser.specs.declared.Part.{Part}
-use Rattle.parser.specs.Answers.{part_of}
-use Rattle.parser.specs.Reads.{Reads}
+use Rattle.parser.specs.declared.Failure.{Failure}
+use Rattle.parser.specs.Failures.{number_of, Fails}
+use Rattle.parser.specs.Reads.{Gives, Reads}
 use Rattle.parser.specs.Reads.Reads.{read, fails}
-use Rattle.parser.proofs.Answers.{Came, then_got, then_failed, part_failed}
+use Rattle.parser.proofs.Answers.{Came, gives_failed, then_got, then_failed}
 
 -- ---- Results
 
@@ -28,48 +30,44 @@ never e f = let q = sym e ∙ f in let z : ◌≡◌ {A = ℕ} 0 1 = cc in omega
 
 -- ---- After a call
 
-module _ {A : Type 0} {done : A → Type 0} {kept : Type 0} {part : Part} {g : Got A} where
+module _ {A X : Type 0} {done : A → X → Type 0} {kept : Type 0} {r : Result (Part X) Failure} {g : Got A} where
   -- what was read, where the answer is that it was
-  pub came : {n : ℕ} → Reads done kept part g → part ≡ Part.Read n → Came done g n
-  came {n} (read {t} {n = m} i h d) e = let q : m ≡ n = cc in record { tree = t; is = i ∙ ap (got t) q; holds = d }
+  pub came : {p : Part X} → Reads done kept r g → r ≡ Ok p → Came done g p.value p.next
+  came {p} (read {t} {x} {n} i h d) e =
+      let q : ◌≡◌ {A = Part X} (record { value = x; next = n }) p = cc in
+      record { tree = t; is = i ∙ ap (λ (y : Part X). got t y.next) q; holds = subst (λ (y : Part X). done t y.value) q d }
   came (fails i h w) e = absurd (let z : ◌≡◌ {A = ℕ} 0 1 = cc in omega arith)
 
-  pub failed_as : {k a : ℕ} → Reads done kept part g → part ≡ Part.Failed k a → g ≡ failed k a
+  pub failed_as : {e : Failure} → Reads done kept r g → r ≡ Err e → Fails e g
   failed_as (read i h d) e = absurd (let z : ◌≡◌ {A = ℕ} 0 1 = cc in omega arith)
-  failed_as {k} {a} (fails {k = l} {at = b} i h w) e = let p : l ≡ k = cc in let q : b ≡ a = cc in i ∙ ap₂ (λ x y. failed x y) p q
+  failed_as {e} (fails {e = f} i h w) j = let q : f ≡ e = cc in i ∙ ap (λ (x : Failure). failed (number_of x.cause) x.at) q
 
-  pub kept_as : {k a : ℕ} → Reads done kept part g → part ≡ Part.Failed k a → kept
+  pub kept_as : {e : Failure} → Reads done kept r g → r ≡ Err e → kept
   kept_as (read i h d) e = absurd (let z : ◌≡◌ {A = ℕ} 0 1 = cc in omega arith)
   kept_as (fails i h w) e = w
 
-  -- a failure is passed upward
-  pub pass : {B : Type 0} {done' : B → Type 0} {kept' : Type 0} {g' : Got B} (rest : A → ℕ → Got B) {k a : ℕ} → Reads done kept part g → part ≡ Part.Failed k a → g' ≡ and_then g rest → (kept → kept')
-      → Reads done' kept' part g'
-  pass rest r e q w = fails (q ∙ then_failed rest (failed_as r e)) e (w (kept_as r e))
+  -- a failure is passed upward, whatever the answer would have held
+  pub pass : {B Y : Type 0} {done' : B → Y → Type 0} {kept' : Type 0} {g' : Got B} (rest : A → ℕ → Got B) {e : Failure} → Reads done kept r g → r ≡ Err e → g' ≡ and_then g rest → (kept → kept')
+      → Reads done' kept' (Err e) g'
+  pass rest h i q w = fails (q ∙ then_failed rest (failed_as h i)) refl (w (kept_as h i))
 
   -- the same part, read as a tree of another definition
-  pub reads_as : {B : Type 0} {done' : B → Type 0} {kept' : Type 0} {part' : Part} {g' : Got B} (f : A → B) → Reads done kept part g → part' ≡ part → g' ≡ and_then g (λ x n. got (f x) n)
-      → ((x : A) → done x → done' (f x)) → (kept → kept') → Reads done' kept' part' g'
-  reads_as f (read {t} i h d) p q k w = read (q ∙ then_got _ i) (p ∙ h) (k t d)
-  reads_as f (fails i h v) p q k w = fails (q ∙ then_failed _ i) (p ∙ h) (w v)
+  pub reads_as : {B : Type 0} {done' : B → X → Type 0} {kept' : Type 0} {g' : Got B} (f : A → B) → Reads done kept r g → g' ≡ and_then g (λ x n. got (f x) n)
+      → ((t : A) (x : X) → done t x → done' (f t) x) → (kept → kept') → Reads done' kept' r g'
+  reads_as f (read {t} {x} i h d) q k w = read (q ∙ then_got _ i) h (k t x d)
+  reads_as f (fails i h v) q k w = fails (q ∙ then_failed _ i) h (w v)
 
-  pub reads_to : {done' : A → Type 0} {kept' : Type 0} {g' : Got A} → g' ≡ g → ((x : A) → done x → done' x) → (kept → kept') → Reads done kept part g → Reads done' kept' part g'
-  reads_to q k w (read {t} i h d) = read (q ∙ i) h (k t d)
+  pub reads_to : {done' : A → X → Type 0} {kept' : Type 0} {g' : Got A} → g' ≡ g → ((t : A) (x : X) → done t x → done' t x) → (kept → kept') → Reads done kept r g → Reads done' kept' r g'
+  reads_to q k w (read {t} {x} i h d) = read (q ∙ i) h (k t x d)
   reads_to q k w (fails i h v) = fails (q ∙ i) h (w v)
 
-  pub reads_on : {g' : Got A} → g' ≡ g → Reads done kept part g → Reads done kept part g'
-  reads_on q r = reads_to q (λ x d. d) (λ w. w) r
+  pub reads_on : {g' : Got A} → g' ≡ g → Reads done kept r g → Reads done kept r g'
+  reads_on q h = reads_to q (λ t x d. d) (λ w. w) h
 
--- a token that is missing fails the whole
-pub missing : {A B : Type 0} {done : B → Type 0} {kept : Type 0} {part : Part} {g' : Got B} (g : Got A) (rest : A → ℕ → Got B) {k a : ℕ} → part ≡ part_of g → part ≡ Part.Failed k a → g' ≡ and_then g rest → kept
-    → Reads done kept part g'
-missing g rest p e q w = fails (q ∙ then_failed rest (part_failed g p e)) e w
-
--- a part that was read, if a token of a kind stands after it
-pub ended_by : {A B : Type 0} {done : A → Type 0} {kept : Type 0} {part : Part} (t : A) {g : Got A} (x : Got B) → g ≡ and_then x (λ _ next. got t next) → part ≡ part_of x → done t → kept → Reads done kept part g
-unfolding and_then part_of
-ended_by t (got b n) e h d w = read e h d
-ended_by t (failed k a) e h d w = fails e h w
+-- a token or part that is missing fails the whole
+pub missing : {A B X Y : Type 0} (view : X → A) {done : B → Y → Type 0} {kept : Type 0} {r : Result (Part X) Failure} {g' : Got B} (g : Got A) (rest : A → ℕ → Got B) {e : Failure} → Gives view r g → r ≡ Err e → g' ≡ and_then g rest → kept
+    → Reads done kept (Err e) g'
+missing view g rest h i q w = fails (q ∙ then_failed rest (gives_failed view h i)) refl w
 
 -- ---- Parts in turn
 
@@ -94,19 +92,19 @@ pub record Turning {A : Type 0} (more : A → ℕ → Option (Got A)) (w : Got A
   pub holds : held done
   pub same : w ≡ repeat_by more left done from
 
-module _ {A : Type 0} {more : A → ℕ → Option (Got A)} {w : Got A} {held : A → Type 0} {kept : Type 0} {from left : ℕ} (t : Turning more w held from left) where
-  pub turn_zero : left ≡ 0 → Reads held kept (Part.Read from) w
-  turn_zero z = read (t.same ∙ repeat_zero more t.done from z) refl t.holds
+module _ {A : Type 0} {more : A → ℕ → Option (Got A)} {w : Got A} {held : A → Type 0} {from left : ℕ} (t : Turning more w held from left) where
+  pub turn_zero : {X : Type 0} {x : X} {done : A → X → Type 0} {kept : Type 0} → left ≡ 0 → ((a : A) → held a → done a x) → Reads done kept (Ok (record { value = x; next = from })) w
+  turn_zero z k = read (t.same ∙ repeat_zero more t.done from z) refl (k t.done t.holds)
 
-  pub turn_none : more t.done from ≡ none → Reads held kept (Part.Read from) w
-  turn_none e = read (t.same ∙ repeat_none more t.done from left e) refl t.holds
+  pub turn_none : {X : Type 0} {x : X} {done : A → X → Type 0} {kept : Type 0} → more t.done from ≡ none → ((a : A) → held a → done a x) → Reads done kept (Ok (record { value = x; next = from })) w
+  turn_none e k = read (t.same ∙ repeat_none more t.done from left e) refl (k t.done t.holds)
 
-  module _ (z : left ≡ 0 → ⊥) {g : Got A} (e : more t.done from ≡ some g) {held' : A → Type 0} {part : Part} (r : Reads held' kept part g) where
-    pub turn_failed : {k a : ℕ} → part ≡ Part.Failed k a → Reads held' kept part w
-    turn_failed h = pass _ r h (t.same ∙ repeat_some more t.done from left z e) (λ v. v)
+  module _ (z : left ≡ 0 → ⊥) {g : Got A} (e : more t.done from ≡ some g) {X : Type 0} {done : A → X → Type 0} {kept : Type 0} {r : Result (Part X) Failure} (h : Reads done kept r g) where
+    pub turn_failed : {Y : Type 0} {done' : A → Y → Type 0} {kept' : Type 0} {f : Failure} → r ≡ Err f → (kept → kept') → Reads done' kept' (Err f) w
+    turn_failed i v = pass _ h i (t.same ∙ repeat_some more t.done from left z e) v
 
-    pub turn_next : {n : ℕ} → part ≡ Part.Read n → Turning more w held' n (left - 1)
-    turn_next h = let one = came r h in record { done = one.tree; holds = one.holds; same = t.same ∙ repeat_some more t.done from left z e ∙ then_got _ one.is }
+    pub turn_next : {p : Part X} → r ≡ Ok p → Turning more w (λ a. done a p.value) p.next (left - 1)
+    turn_next i = let one = came h i in record { done = one.tree; holds = one.holds; same = t.same ∙ repeat_some more t.done from left z e ∙ then_got _ one.is }
 
 -- a list w that has come to another part, after what is done so far, which the next part may be read by
 pub record Sequel {A B : Type 0} (source : List ℕ) (separator : ℕ) (more : B → ℕ → Got A) (sofar : A → B) (w : Got A) (held : B → Type 0) (from left : ℕ) : Type 0 where
@@ -124,30 +122,36 @@ unfolding separated repeat
 list_first source separator more start at h = record { done = start; holds = h; same = refl }
 
 -- its next part is read
-module _ {A B : Type 0} {source : List ℕ} {separator : ℕ} {more : B → ℕ → Got A} {sofar : A → B} {w : Got A} {held : B → Type 0} {held' : A → Type 0} {kept : Type 0} {from left : ℕ}
-    (l : Sequel source separator more sofar w held from left) {part : Part} (r : Reads held' kept part (more l.done from)) where
-  pub list_failed : {k a : ℕ} → part ≡ Part.Failed k a → Reads held' kept part w
-  list_failed e = pass _ r e l.same (λ v. v)
+module _ {A B X : Type 0} {source : List ℕ} {separator : ℕ} {more : B → ℕ → Got A} {sofar : A → B} {w : Got A} {held : B → Type 0} {held' : A → X → Type 0} {kept : Type 0} {from left : ℕ}
+    (l : Sequel source separator more sofar w held from left) {r : Result (Part X) Failure} (h : Reads held' kept r (more l.done from)) where
+  pub list_failed : {done : A → X → Type 0} {kept' : Type 0} {f : Failure} → r ≡ Err f → (kept → kept') → Reads done kept' (Err f) w
+  list_failed i v = pass _ h i l.same v
 
-  module _ {n : ℕ} (e : part ≡ Part.Read n) where
-    pub list_zero : left ≡ 0 → Reads held' kept part w
-    list_zero z = let one = came r e in read (l.same ∙ then_got _ one.is ∙ repeat_zero (more_separated source separator (λ a. more (sofar a))) one.tree n z) e one.holds
+  module _ {p : Part X} (i : r ≡ Ok p) where
+    pub list_zero : {kept' : Type 0} → left ≡ 0 → Reads held' kept' (Ok p) w
+    list_zero z = let one = came h i in read (l.same ∙ then_got _ one.is ∙ repeat_zero (more_separated source separator (λ a. more (sofar a))) one.tree p.next z) refl one.holds
 
-    module _ {t : Token} (i : t ≡ token_at source n) where
-      pub list_last : (t.kind ≡ separator → ⊥) → Reads held' kept part w
-      list_last k =
-          let one = came r e in read (l.same ∙ then_got _ one.is ∙ repeat_none (more_separated source separator (λ a. more (sofar a))) one.tree n left (rw (← i, ne_eqb _ _ k))) e one.holds
+    module _ {t : Token} (k : t ≡ token_at source p.next) where
+      pub list_last : {kept' : Type 0} → (t.kind ≡ separator → ⊥) → Reads held' kept' (Ok p) w
+      list_last n =
+          let one = came h i in read (l.same ∙ then_got _ one.is ∙ repeat_none (more_separated source separator (λ a. more (sofar a))) one.tree p.next left (rw (← k, ne_eqb _ _ n))) refl one.holds
 
-      pub sequel_next : {held'' : B → Type 0} → ((a : A) → held' a → held'' (sofar a)) → (left ≡ 0 → ⊥) → t.kind ≡ separator → Sequel source separator more sofar w held'' t.next (left - 1)
-      sequel_next so z k =
-          let one = came r e in
+      pub sequel_next : {held'' : B → Type 0} → ((a : A) → held' a p.value → held'' (sofar a)) → (left ≡ 0 → ⊥) → t.kind ≡ separator → Sequel source separator more sofar w held'' t.next (left - 1)
+      sequel_next so z n =
+          let one = came h i in
           record {
             done = sofar one.tree;
             holds = so one.tree one.holds;
-            same = l.same ∙ then_got _ one.is ∙ repeat_some (more_separated source separator (λ a. more (sofar a))) one.tree n left z (rw (← i, eq-eqb _ _ k));
+            same = l.same ∙ then_got _ one.is ∙ repeat_some (more_separated source separator (λ a. more (sofar a))) one.tree p.next left z (rw (← k, eq-eqb _ _ n));
           }
 
-pub list_next : {A : Type 0} {source : List ℕ} {separator : ℕ} {more : A → ℕ → Got A} {w : Got A} {held held' : A → Type 0} {kept : Type 0} {from left n : ℕ} (l : Listing source separator more w held from left)
-    {part : Part} → Reads held' kept part (more l.done from) → part ≡ Part.Read n → {t : Token} → t ≡ token_at source n → (left ≡ 0 → ⊥) → t.kind ≡ separator
-    → Listing source separator more w held' t.next (left - 1)
-list_next l r e i z k = sequel_next l r e i (λ a h. h) z k
+-- after the last turn the list ends with one part more
+pub list_end : {A B X : Type 0} {source : List ℕ} {separator : ℕ} {more : B → ℕ → Got A} {sofar : A → B} {w : Got A} {held : B → Type 0} {held' : A → X → Type 0} {kept : Type 0} {from left : ℕ}
+    (l : Sequel source separator more sofar w held from left) {r : Result (Part X) Failure} → Reads held' kept r (more l.done from) → left ≡ 0 → Reads held' kept r w
+list_end {source = source} {separator} {more} {sofar} l (read {t} {n = n} i q d) z = read (l.same ∙ then_got _ i ∙ repeat_zero (more_separated source separator (λ a. more (sofar a))) t n z) q d
+list_end l (fails i q k) z = fails (l.same ∙ then_failed _ i) q k
+
+pub list_next : {A X : Type 0} {source : List ℕ} {separator : ℕ} {more : A → ℕ → Got A} {w : Got A} {held : A → Type 0} {held' : A → X → Type 0} {kept : Type 0} {from left : ℕ} (l : Listing source separator more w held from left)
+    {r : Result (Part X) Failure} → Reads held' kept r (more l.done from) → {p : Part X} → r ≡ Ok p → {t : Token} → t ≡ token_at source p.next → (left ≡ 0 → ⊥) → t.kind ≡ separator
+    → Listing source separator more w (λ a. held' a p.value) t.next (left - 1)
+list_next l h i k z n = sequel_next l h i k (λ a d. d) z n

@@ -1,3 +1,3 @@
 -- What every function that reads promises.
-pub mod Answers
+pub mod Failures
 pub mod Reads

@@ -1,80 +1,166 @@
-// What every function that reads a part of the source is made of: the part, the token that must stand there, and failures. `failures` has the numbers.
+// What every function that reads a part of the source is made of: the part, the token that must stand there, and failures.
 #![tactic(auto)]
 
 ghost use Rattle.std.specs.Prelude.{◌≡◌, ℕ, min};
 ghost use Rattle.source.specs.Tokens.{token_at, failure_at};
 ghost use Rattle.grammar.specs.Parse.{expect as expect_def};
 ghost use Rattle.grammar.specs.Cells.{refuse};
-ghost use Rattle.parser.specs.Answers.{part_of};
+ghost use Rattle.parser.specs.Failures.{number_of, Fails};
+ghost use Rattle.parser.specs.Reads.{Gives};
 
 use source::{Token, kind, token_at};
 
-pub mod failures;
-
-// Whether a part of the source was read, and up to where; or a failure's number and offset.
-#[derive(Clone, Copy)]
-pub enum Part {
-    Read { next: usize },
-    Failed { number: u16, at: usize },
+/// What a source fails by, each with its number (F1 to F14): `number` and `specs/Failures` say which.
+#[derive(Clone, Copy, Debug, PartialEq, Eq)]
+pub enum Cause {
+    WrongImage,
+    ShortScratch,
+    LongSource,
+    UnknownByte,
+    OutOfRange,
+    NotAllowed,
+    WrongName,
+    NameTaken,
+    TooDeep,
+    TooManyNames,
+    NoGlobalLeft,
+    SectorFull,
+    MemoryFull,
+    TooManyValues,
+    // No rule sets such a number down, and no source fails by it. It is here since `fail_at` takes any number's cause.
+    Other(u16),
 }
 
-// The lower of two failures' numbers.
-fn lower(own: u16, number: u16) -> u16
-    ensures { result ≡ min own number }
+impl Cause {
+    /// The failure's number (F1 to F14).
+    pub fn number(self) -> u16
+        ensures { result ≡ number_of self }
+    {
+        match self {
+            Cause::WrongImage => 1,
+            Cause::ShortScratch => 2,
+            Cause::LongSource => 3,
+            Cause::UnknownByte => 4,
+            Cause::OutOfRange => 5,
+            Cause::NotAllowed => 6,
+            Cause::WrongName => 7,
+            Cause::NameTaken => 8,
+            Cause::TooDeep => 9,
+            Cause::TooManyNames => 10,
+            Cause::NoGlobalLeft => 11,
+            Cause::SectorFull => 12,
+            Cause::MemoryFull => 13,
+            Cause::TooManyValues => 14,
+            Cause::Other(number) => number,
+        }
+    }
+}
+
+impl From<u16> for Cause {
+    /// The cause that has a number.
+    fn from(number: u16) -> Cause
+        ensures { number_of result ≡ number }
+    {
+        match number {
+            1 => Cause::WrongImage,
+            2 => Cause::ShortScratch,
+            3 => Cause::LongSource,
+            4 => Cause::UnknownByte,
+            5 => Cause::OutOfRange,
+            6 => Cause::NotAllowed,
+            7 => Cause::WrongName,
+            8 => Cause::NameTaken,
+            9 => Cause::TooDeep,
+            10 => Cause::TooManyNames,
+            11 => Cause::NoGlobalLeft,
+            12 => Cause::SectorFull,
+            13 => Cause::MemoryFull,
+            14 => Cause::TooManyValues,
+            _ => Cause::Other(number),
+        }
+    }
+}
+
+/// Why a source failed, and where: the offset of the first byte of what is wrong (J4).
+#[derive(Clone, Copy, Debug, PartialEq, Eq)]
+pub struct Failure {
+    pub cause: Cause,
+    pub at: usize,
+}
+
+/// What was read, and the offset where reading goes on.
+#[derive(Clone, Copy, Debug, PartialEq, Eq)]
+pub struct Part<T> {
+    pub value: T,
+    pub next: usize,
+}
+
+/// What a function that reads a part of the source answers.
+pub type Read<T> = Result<Part<T>, Failure>;
+
+// The one of two causes that has the lower number.
+fn lower(own: Cause, other: Cause) -> Cause
+    ensures { number_of result ≡ min (number_of own) (number_of other) }
 {
-    if own < number { own } else { number }
+    if own.number() < other.number() {
+        own
+    } else {
+        other
+    }
 }
 
-// The number of a failure at a token, which may carry one of its own.
+// The cause of a failure at a token, which may carry one of its own.
 #[tactic(auto, unfolding(source::specs::Tokens::failure_at))]
-fn failure(t: Token, number: u16) -> u16
-    ensures { result ≡ failure_at t number }
+fn cause_at(t: Token, cause: Cause) -> Cause
+    ensures { number_of result ≡ failure_at t (number_of cause) }
 {
-    if t.kind == kind::UNKNOWN {
-        return lower(failures::UNKNOWN, number);
+    match t.kind {
+        kind::UNKNOWN => lower(Cause::UnknownByte, cause),
+        kind::OUT_OF_RANGE => lower(Cause::OutOfRange, cause),
+        _ => cause,
     }
-    if t.kind == kind::OUT_OF_RANGE {
-        return lower(failures::OUT_OF_RANGE, number);
-    }
-    number
 }
 
-// A failure at a token: by the lowest number (J3), at its first byte (J4).
-pub fn fail_at(t: Token, number: u16) -> Part
-    ensures { result ≡ Part.Failed (failure_at t number) t.at }
+/// A failure at a token: by the lowest number (J3), at its first byte (J4).
+pub fn fail_at(t: Token, cause: Cause) -> Failure
+    ensures number { number_of result.cause ≡ failure_at t (number_of cause) }
+    ensures at { result.at ≡ t.at }
 {
-    Part::Failed {
-        number: failure(t, number),
+    Failure {
+        cause: cause_at(t, cause),
         at: t.at,
     }
 }
 
-// The token of a kind, or failure 6 (J6).
-#[tactic(auto, unfolding(grammar::specs::Parse::expect, crate::specs::Answers::part_of, grammar::specs::Parse::fail_at))]
-pub fn expect(source: &[u8], kind: u16, at: usize) -> Part
-    ensures { result ≡ part_of (expect_def kind source.now at) }
+/// The token of a kind, or failure 6 (J6).
+#[tactic(auto, unfolding(grammar::specs::Parse::expect, grammar::specs::Parse::fail_at))]
+pub fn expect(source: &[u8], kind: u16, at: usize) -> Read<Token>
+    ensures { Gives (λ t. t) result (expect_def kind source.now at) }
 {
     let t = token_at(source, at);
     if t.kind == kind {
-        return Part::Read { next: t.next };
+        return Ok(Part {
+            value: t,
+            next: t.next,
+        });
     }
-    fail_at(t, failures::NOT_ALLOWED)
+    Err(fail_at(t, Cause::NotAllowed))
 }
 
-// A token that nothing allowed there begins with (J5).
-#[tactic(auto, unfolding(grammar::specs::Cells::refuse, crate::specs::Answers::part_of, grammar::specs::Parse::fail_at))]
-pub fn refused(t: Token) -> Part
-    ensures { result ≡ part_of {A = ℕ} (refuse t) }
+/// A token that nothing allowed there begins with (J5).
+#[tactic(auto, unfolding(grammar::specs::Cells::refuse, grammar::specs::Parse::fail_at))]
+pub fn refused(t: Token) -> Failure
+    ensures { Fails {A = ℕ} result (refuse t) }
 {
     if t.kind == kind::NAME {
-        return fail_at(t, failures::WRONG_NAME);
+        return fail_at(t, Cause::WrongName);
     }
-    fail_at(t, failures::NOT_ALLOWED)
+    fail_at(t, Cause::NotAllowed)
 }
 
-// The same of the token at an offset.
-pub fn refuse_at(source: &[u8], at: usize) -> Part
-    ensures { result ≡ part_of {A = ℕ} (refuse (token_at source.now at)) }
+/// The same of the token at an offset.
+pub fn refuse_at(source: &[u8], at: usize) -> Failure
+    ensures { Fails {A = ℕ} result (refuse (token_at source.now at)) }
 {
     refused(token_at(source, at))
 }

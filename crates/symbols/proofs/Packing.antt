@@ -1,7 +1,8 @@
 -- Packing loses nothing but what stands behind six characters: three words give back themselves, a name its first six, and so names pack alike exactly if these agree.
 use Prim.Native.Nat.{ℕ, zero, suc, ◌+◌, ◌*◌, ◌/◌, ◌%◌, ◌<◌}
 use mathlib.Core.Path.{◌≡◌, refl, sym, ap, ◌∙◌}
-use mathlib.Core.Bool.{Bool, true, false, ◌&&◌, ◌||◌}
+use Rattle.std.specs.Prelude.{nat_eq}
+use mathlib.Core.Bool.{◌&&◌, Bool, true, false, ◌&&◌, ◌||◌}
 use mathlib.Core.List.{List, [], ◌∷◌}
 use native.Mathlib.Omega.{arith}
 use lib.ListN.{length, get_or, take, length-take}
@@ -193,4 +194,16 @@ pub x_packed : (p : Packed) → is_x (unpack p) ≡ same_packed p (record { one 
 unfolding is_x unpack trimmed before_trimmed
 x_packed p = sym (same_unpacked p (record { one = 0o054000; two = 0; three = 0 }))
 
-pub ruleset for_newest = (same_unpacked)
+-- the comparison of two names as structs
+pub packed_equal : (p q : Packed) → nat_eq p.one q.one && (nat_eq p.two q.two && nat_eq p.three q.three) ≡ same_packed p q
+unfolding same_packed
+packed_equal p q = go (nat_eq p.one q.one) (nat_eq p.two q.two) (nat_eq p.three q.three)
+  where
+    go : (a b c : Bool) → a && (b && c) ≡ whether a (λ _. whether b (λ _. c) (λ _. false)) (λ _. false)
+    go true true c = refl
+    go true false c = refl
+    go false b c = refl
+
+pub ruleset for_is_x = (x_packed, packed_equal)
+
+pub ruleset for_newest = (same_unpacked, packed_equal)

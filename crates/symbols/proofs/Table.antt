@@ -3,17 +3,20 @@ use Prim.Native.Nat.{ℕ, zero, suc, ◌+◌, ◌*◌, ◌/◌, ◌-◌, ◌≤�
 use mathlib.Core.Path.{◌≡◌, refl, sym, ap, ap₂, ◌∙◌}
 use mathlib.Core.Bool.{Bool, true, false}
 use mathlib.Core.List.{List, [], ◌∷◌}
-use mathlib.Core.Option.{some}
 use native.Mathlib.Omega.{arith}
 use borrow.Author.Tests.{le-leb, lt-ltb, le-ltb}
-use native.Mathlib.Numerals.{add-one, sub-one}
+use native.Mathlib.Numerals.{add-one}
 use lib.ListN.{length, get_or, set, take, length-set}
 use lib.Seq.{get_or-take, get_or-set_same, get_or-set_other, take-set-le}
 use Rattle.tree.specs.Tree.{Array, Item}
 use Rattle.tree.specs.Symbols.{Symbol, Level, Scope, next_id, item_symbol}
 use Rattle.symbols.specs.declared.Packed.{Packed}
-use Rattle.symbols.specs.Packing.{unpack}
-use Rattle.symbols.specs.Table.{number_of, data_of, level_of, symbol_from, at_level, entry_of, entry_at, row_at, entries_of, live_names, nth_in, with_words, with_row, table_with, Entered}
+use mathlib.Core.Option.{some}
+use Rattle.prelude.specs.Choice.{find}
+use Rattle.source.specs.Bytes.{same_bytes}
+use Rattle.symbols.specs.Packing.{unpack, same_packed, packed_at}
+use Rattle.symbols.proofs.Packing.{same_unpacked}
+use Rattle.symbols.specs.Table.{number_of, data_of, level_of, symbol_from, at_level, entry_of, entry_at, row_at, entries_of, live_names, with_words, with_row, table_with, Entered}
 
 -- ---- Words of what is declared
 
@@ -84,11 +87,14 @@ pub held_all : (n : ℕ) (t : List ℕ) → 7 * n ≤ length t → live_names n 
 unfolding live_names
 held_all n t h = rw (le-leb n (length t / 7) (omega arith))
 
--- the row of a number that is not 0
-pub nth_is : (t : List ℕ) (n : ℕ) → (n ≡ 0 → ⊥) → nth_in t n ≡ some (row_at t (7 * (n - 1)))
-unfolding nth_in
-nth_is t zero h = absurd (h refl)
-nth_is t (suc n) h = rw sub-one
+-- the newest row has the name
+pub row_found : (t : List ℕ) (name : Packed) (n : ℕ) → 0 < n → same_packed name (packed_at t (7 * (n - 1))) ≡ true → find (same_bytes (unpack name)) (entries_of n t) ≡ some (row_at t (7 * (n - 1)))
+unfolding entries_of find row_at
+row_found t name zero h e = absurd (omega arith)
+row_found t name (suc n) h e =
+    let q : suc n - 1 ≡ n = omega arith in
+    let s : same_bytes (unpack name) (unpack (packed_at t (7 * n))) ≡ true = sym (same_unpacked name (packed_at t (7 * n))) ∙ ap (λ k. same_packed name (packed_at t (7 * k))) (sym q) ∙ e in
+    rw (q, s)
 
 -- ---- An entry's words
 

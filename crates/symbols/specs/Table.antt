@@ -1,5 +1,6 @@
 -- The live names that a table holds. An entry is seven words: the packed name, the level, and a tag, a number and a value that give the symbol.
 use Rattle.std.specs.Prelude.{ℕ, zero, suc, ◌+◌, ◌*◌, ◌/◌, ◌≤◌, ◌≡◌, true, false, cond, List, [], ◌∷◌, get_or, length, set, take, eqb, leb, ltb}
+use Rattle.std.specs.Prelude.{Option as Place, None, Some}
 use Rattle.std.proofs.Math.Option.{Option, none, some}
 use Rattle.prelude.specs.Choice.{whether, find}
 use Rattle.source.specs.Bytes.{same_bytes}
@@ -74,15 +75,15 @@ entries_of (suc n) table = row_at table (entry_words * n) ∷ entries_of n table
 unfoldable pub live_names : ℕ → List ℕ → Names
 live_names count table = whether (leb count (length table / entry_words)) (λ _. entries_of count table) (λ _. [])
 
--- the n-th row of a table, counted from 1
-unfoldable pub nth_in : List ℕ → ℕ → Option (Name × Entry)
-nth_in table zero = none
-nth_in table (suc n) = some (row_at table (entry_words * n))
+-- the row of a table at a place that was found, counted from 0
+unfoldable pub nth_in : List ℕ → Place ℕ → Option (Name × Entry)
+nth_in table None = none
+nth_in table (Some i) = some (row_at table (entry_words * i))
 
--- the number of a name's newest row, or 0
-pub record Newest (count : ℕ) (table : List ℕ) (name : Packed) (n : ℕ) : Type 0 where
-  pub inside : entry_words * n ≤ length table
-  pub row : find (same_bytes (unpack name)) (live_names count table) ≡ nth_in table n
+-- the place of a name's newest row, if there is one
+pub record Newest (count : ℕ) (table : List ℕ) (name : Packed) (found : Place ℕ) : Type 0 where
+  pub inside : (i : ℕ) → found ≡ Some i → entry_words * i + entry_words ≤ length table
+  pub row : find (same_bytes (unpack name)) (live_names count table) ≡ nth_in table found
 
 -- ---- Declaring a name
 

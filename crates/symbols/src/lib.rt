@@ -36,10 +36,14 @@ const CHECKED_ARRAY: u16 = 7;
 const UNKNOWN: u16 = 0;
 
 // X and no second character.
-const X: u16 = 0o054000;
+const X: Packed = Packed {
+    one: 0o054000,
+    two: 0,
+    three: 0,
+};
 
 // An integer or a named constant: X; the number of a global; its procedure's number, and its own among the locals.
-#[derive(Clone, Copy)]
+#[derive(Clone, Copy, Debug, PartialEq, Eq)]
 pub enum Id {
     X,
     Global { number: u16 },
@@ -47,34 +51,34 @@ pub enum Id {
 }
 
 // An array: its number among the globals, its size, and whether its subscripts are tested.
-#[derive(Clone, Copy)]
+#[derive(Clone, Copy, Debug, PartialEq, Eq)]
 pub struct Array {
     pub number: u16,
     pub size: u16,
     pub checked: bool,
 }
 
-#[derive(Clone, Copy)]
+#[derive(Clone, Copy, Debug, PartialEq, Eq)]
 pub enum Operand {
     Named { id: Id },
     Literal { value: u16 },
 }
 
 // By a word, or `#`, which is X as it is.
-#[derive(Clone, Copy)]
+#[derive(Clone, Copy, Debug, PartialEq, Eq)]
 pub enum Subscript {
     By { operand: Operand },
     Hash,
 }
 
-#[derive(Clone, Copy)]
+#[derive(Clone, Copy, Debug, PartialEq, Eq)]
 pub enum Cell {
     Plain { operand: Operand },
     Item { array: Array, subscript: Subscript },
 }
 
 // What a name stands for. A procedure's number counts with the globals.
-#[derive(Clone, Copy)]
+#[derive(Clone, Copy, Debug, PartialEq, Eq)]
 pub enum Symbol {
     Integer { id: Id },
     Constant { id: Id, value: u16 },
@@ -85,7 +89,7 @@ pub enum Symbol {
 }
 
 // The first six characters of a name, two a word, 0 where there is none (T14).
-#[derive(Clone, Copy)]
+#[derive(Clone, Copy, Debug, PartialEq, Eq)]
 pub struct Packed {
     pub one: u16,
     pub two: u16,
@@ -93,7 +97,7 @@ pub struct Packed {
 }
 
 // A symbol as words.
-#[derive(Drop)]
+#[derive(Clone, Copy, Debug, PartialEq, Eq)]
 pub struct Data {
     pub tag: u16,
     pub number: u16,
@@ -101,10 +105,17 @@ pub struct Data {
 }
 
 // A row of the table: a name, and what it stands for.
-#[derive(Clone, Copy)]
+#[derive(Clone, Copy, Debug, PartialEq, Eq)]
 pub struct Row {
     pub name: Packed,
     pub symbol: Symbol,
+}
+
+/// The live names: the first `count` rows of a table's words, the newest last. A table too short for them holds none.
+#[derive(Clone, Copy, Debug)]
+pub struct Names<'a> {
+    pub words: &'a [u16],
+    pub count: usize,
 }
 
 // Two characters of a name in a word.
@@ -136,15 +147,11 @@ pub fn packing_laws()
 {}
 
 // Whether the name is X.
+#[tactic(auto, using(crate::proofs::Packing::for_is_x))]
 fn is_x(name: Packed) -> bool
     ensures { result ≡ is_x (unpack name) }
 {
-    if name.one == X {
-        if name.two == 0 {
-            return name.three == 0;
-        }
-    }
-    false
+    name == X
 }
 
 // The id of a number at a level.
@@ -216,18 +223,16 @@ fn data_of(symbol: Symbol) -> Data
     }
 }
 
-// Whether the entry at an offset has the name.
-#[tactic(auto, unfolding(crate::specs::Packing::same_packed))]
-fn is_named(table: &[u16], at: usize, name: Packed) -> bool
+// The name of the entry at an offset.
+fn name_at(table: &[u16], at: usize) -> Packed
     requires { at + entry_words ≤ length table.now }
-    ensures { result ≡ same_packed name (packed_at table.now at) }
+    ensures { result ≡ packed_at table.now at }
 {
-    if name.one == table[at] {
-        if name.two == table[at + 1] {
-            return name.three == table[at + 2];
-        }
+    Packed {
+        one: table[at],
+        two: table[at + 1],
+        three: table[at + 2],
     }
-    false
 }
 
 // What the entry at an offset stands for; words that no symbol has give Unknown.
@@ -288,64 +293,54 @@ pub fn row_at(table: &[u16], i: usize) -> Row
     }
     let at = ENTRY * i;
     Row {
-        name: Packed {
-            one: table[at],
-            two: table[at + 1],
-            three: table[at + 2],
-        },
+        name: name_at(table, at),
         symbol: symbol_at(table, at),
     }
 }
 
-// The number, from 1, of the newest of the first `count` entries with the name; 0 for none. A table too short for them has none.
-#[tactic(auto, using(crate::proofs::Packing::for_newest, crate::proofs::Table::for_newest), unfolding(crate::specs::Table::entries_of, crate::specs::Table::row_at, prelude::specs::Choice::find, crate::specs::Table::nth_in, crate::specs::Table::live_names))]
-fn newest(table: &[u16], count: usize, name: Packed) -> usize
-    ensures { Newest count table.now name result }
-{
-    if table.len() / ENTRY < count {
-        return 0;
-    }
-    let mut i = count;
-    while 0 < i {
-        if is_named(table, ENTRY * (i - 1), name) {
-            return i;
+impl Names<'_> {
+    // The place of the newest row with the name.
+    #[tactic(auto, using(crate::proofs::Packing::for_newest, crate::proofs::Table::for_newest), unfolding(crate::specs::Table::entries_of, crate::specs::Table::row_at, prelude::specs::Choice::find, crate::specs::Table::nth_in, crate::specs::Table::live_names))]
+    fn newest(&self, name: Packed) -> Option<usize>
+        ensures { Newest self.now.count self.now.words.now name result }
+    {
+        if self.words.len() / ENTRY < self.count {
+            return None;
         }
-        i -= 1;
+        for i in (0..self.count).rev() {
+            if name == name_at(self.words, ENTRY * i) {
+                return Some(i);
+            }
+        }
+        None
     }
-    0
-}
 
-// What a name stands for, by the table's first `count` entries.
-#[tactic(auto, unfolding(tree::specs::Symbols::symbol_of, crate::specs::Trees::tree_symbol, crate::specs::Trees::tree_id, crate::specs::Table::nth_in, crate::specs::Table::row_at))]
-pub fn find(table: &[u16], count: usize, name: Packed) -> Symbol
-    ensures { tree_symbol result ≡ symbol_of (live_names count table.now) (unpack name) }
-{
-    if is_x(name) {
-        return Symbol::Integer { id: Id::X };
+    /// What a name stands for; `Unknown` where none is live with it (D16).
+    #[tactic(auto, unfolding(tree::specs::Symbols::symbol_of, crate::specs::Trees::tree_symbol, crate::specs::Trees::tree_id, crate::specs::Table::nth_in, crate::specs::Table::row_at))]
+    pub fn find(&self, name: Packed) -> Symbol
+        ensures { tree_symbol result ≡ symbol_of (live_names self.now.count self.now.words.now) (unpack name) }
+    {
+        if is_x(name) {
+            return Symbol::Integer { id: Id::X };
+        }
+        match self.newest(name) {
+            Some(i) => symbol_at(self.words, ENTRY * i),
+            None => Symbol::Unknown,
+        }
     }
-    let i = newest(table, count, name);
-    if i == 0 {
-        return Symbol::Unknown;
-    }
-    symbol_at(table, ENTRY * (i - 1))
-}
 
-// Whether a name is declared at a level, or X.
-#[tactic(auto, unfolding(tree::specs::Symbols::same_level, crate::specs::Table::level_of, tree::specs::Symbols::is_taken, crate::specs::Table::nth_in, crate::specs::Table::row_at, crate::specs::Table::entry_at))]
-pub fn is_taken(table: &[u16], count: usize, name: Packed, level: u16) -> bool
-    ensures { result ≡ is_taken (record { names = live_names count table.now; level = level_of level; taken = 0 }) (unpack name) }
-{
-    if is_x(name) {
-        return true;
-    }
-    let i = newest(table, count, name);
-    if i == 0 {
-        return false;
-    }
-    if table[ENTRY * (i - 1) + 3] == 0 {
-        level == 0
-    } else {
-        level != 0
+    /// Whether a name is declared at a level, 0 for the globals, or X (D15).
+    #[tactic(auto, unfolding(tree::specs::Symbols::same_level, crate::specs::Table::level_of, tree::specs::Symbols::is_taken, crate::specs::Table::nth_in, crate::specs::Table::row_at, crate::specs::Table::entry_at))]
+    pub fn is_taken(&self, name: Packed, level: u16) -> bool
+        ensures { result ≡ is_taken (record { names = live_names self.now.count self.now.words.now; level = level_of level; taken = 0 }) (unpack name) }
+    {
+        if is_x(name) {
+            return true;
+        }
+        match self.newest(name) {
+            Some(i) => (self.words[ENTRY * i + 3] == 0) == (level == 0),
+            None => false,
+        }
     }
 }
 

@@ -5,26 +5,26 @@ ghost use Rattle.symbols.specs.Trees.{tree_symbol};
 ghost use Rattle.symbols.specs.Table.{live_names};
 ghost use Rattle.symbols.specs.Lookup.{symbol_at, LooksUp};
 
-use crate::{Symbol, find, pack};
+use crate::{Names, Symbol, pack};
 use source::{Token, kind, token_at};
 
-// What a token stands for: a name by the table's first `names` entries, a numeral for its value, as a compconstant's name does.
-#[tactic(auto, using(crate::proofs::PackedTokens::for_lookup), unfolding(crate::specs::Lookup::symbol_by, crate::specs::Trees::tree_symbol))]
-pub fn lookup(source: &[u8], table: &[u16], names: usize, t: Token) -> Symbol
-    ensures { LooksUp source.now (live_names names table.now) t (tree_symbol result) }
-{
-    if t.kind == kind::NUMERAL {
-        return Symbol::Compconstant { value: t.value };
+impl Names<'_> {
+    /// What a token stands for: a name by the live names, a numeral for its value, as a compconstant's name does (D12, E1).
+    #[tactic(auto, using(crate::proofs::PackedTokens::for_lookup), unfolding(crate::specs::Lookup::symbol_by, crate::specs::Trees::tree_symbol))]
+    pub fn lookup(&self, source: &[u8], t: Token) -> Symbol
+        ensures { LooksUp source.now (live_names self.now.count self.now.words.now) t (tree_symbol result) }
+    {
+        match t.kind {
+            kind::NUMERAL => Symbol::Compconstant { value: t.value },
+            kind::NAME => self.find(pack(source, t)),
+            _ => Symbol::Unknown,
+        }
     }
-    if t.kind == kind::NAME {
-        return find(table, names, pack(source, t));
-    }
-    Symbol::Unknown
-}
 
-// The same of the token at an offset.
-pub fn lookup_at(source: &[u8], table: &[u16], names: usize, at: usize) -> Symbol
-    ensures { tree_symbol result ≡ symbol_at source.now (live_names names table.now) (token_at source.now at) }
-{
-    lookup(source, table, names, token_at(source, at))
+    /// The same of the token at an offset.
+    pub fn lookup_at(&self, source: &[u8], at: usize) -> Symbol
+        ensures { tree_symbol result ≡ symbol_at source.now (live_names self.now.count self.now.words.now) (token_at source.now at) }
+    {
+        self.lookup(source, token_at(source, at))
+    }
 }
