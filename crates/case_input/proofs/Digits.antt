@@ -1,13 +1,13 @@
 -- A number, byte by byte, and words set, one by one.
 use Prim.Native.Nat.{ℕ, suc, ◌+◌, ◌-◌, ◌%◌, ◌≤◌, ◌<◌}
-use mathlib.Core.Path.{◌≡◌}
+use mathlib.Core.Path.{◌≡◌, ap}
 use mathlib.Core.Bool.{true, false}
 use mathlib.Core.List.{List}
 use native.Mathlib.Numerals.{add-one}
 use native.Mathlib.Omega.{arith}
 use lib.ListN.{length, get_or, set, drop, drop_of_length-le}
 use lib.Seq.{drop-cons}
-use Rattle.case_input.specs.Cases.{is_digit, grown, number_from, number_at, word_of, set_from}
+use Rattle.case_input.specs.Cases.{is_digit, grown, number_from, value_from, word_from, set_from}
 
 module _ (text : List ℕ) (at value : ℕ) where
   pub ended : length text ≤ at → number_from (drop at text) value at ≡ record { value = value; next = at }
@@ -30,15 +30,14 @@ module _ (text : List ℕ) (left counter at : ℕ) (image : List ℕ) where
       none_left : left ≤ counter → left - counter ≡ 0
       none_left h = omega arith
 
-  pub one_set : counter < left →
-      set_from text (left - counter) at image ≡
-      set_from text (left - (counter + 1)) (number_at text (number_at text at).next).next (set image ((number_at text at).value % 16384) (word_of (number_at text (number_at text at).next)))
+  pub one_set : {address next word end : ℕ} → counter < left → (address, next) ≡ value_from text at → (word, end) ≡ word_from text next
+      → set_from text (left - counter) at image ≡ set_from text (left - (counter + 1)) end (set image (address % 16384) word)
   unfolding set_from
-  one_set h = rw (one_more h)
+  one_set h a w = rw (one_more h, ap (λ (p : ℕ × ℕ). p.0) a, ap (λ (p : ℕ × ℕ). p.0) w, ap (λ (p : ℕ × ℕ). p.1) w, ap (λ (p : ℕ × ℕ). p.1) a)
     where
       one_more : counter < left → left - counter ≡ suc (left - (counter + 1))
       one_more h = omega arith
 
 pub ruleset for_parse_number = (ended, digit, other)
 
-pub ruleset for_parse_words = (all_set, one_set)
+pub ruleset for_set_words = (all_set)
