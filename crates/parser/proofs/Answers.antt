@@ -1,6 +1,6 @@
 -- What answers say of the definitions' results.
 use Prim.Native.Nat.{ℕ}
-use mathlib.Core.Path.{◌≡◌, ap, ◌∙◌}
+use mathlib.Core.Path.{◌≡◌, refl, sym, ap, ◌∙◌}
 use mathlib.Core.Bool.{Bool, true, false}
 use native.Mathlib.Omega.{arith}
 use Rattle.std.specs.Prelude.{Result, Ok, Err}
@@ -11,7 +11,11 @@ use Rattle.grammar.specs.Parse.{Got, and_then, fail_at, is}
 use Rattle.grammar.specs.Cells.{refuse}
 use Rattle.parser.specs.declared.Part.{Part}
 use Rattle.parser.specs.declared.Failure.{Failure}
-use Rattle.parser.specs.Failures.{number_of, Fails}
+use borrow.Author.Tests.{eqb-true}
+use lib.Dec.{eqb}
+use Rattle.parser.specs.declared.Cause.{Cause}
+use Rattle.parser.specs.declared.Cause.TheVariants.{WrongImage, ShortScratch, LongSource, UnknownByte, OutOfRange, NotAllowed, WrongName, NameTaken, TooDeep, TooManyNames, NoGlobalLeft, SectorFull, MemoryFull, TooManyValues}
+use Rattle.parser.specs.Failures.{number_of, cause_of, Fails}
 use Rattle.parser.specs.Reads.{Gives}
 
 -- ---- What comes after
@@ -53,3 +57,32 @@ module _ {A B : Type 0} (t : Token) {k at : ℕ} where
       go : (b : Bool) → whether b (λ _. fail_at {A = A} t 7) (λ _. fail_at t 6) ≡ Got.failed k at → whether b (λ _. fail_at {A = B} t 7) (λ _. fail_at t 6) ≡ Got.failed k at
       go true h = cc
       go false h = cc
+
+-- ---- Causes by their numbers
+
+step : (n k : ℕ) (c : Cause) (rest : Unit {0} → Cause) → number_of c ≡ k → number_of (rest tt) ≡ n → number_of (whether (eqb n k) (λ _. c) rest) ≡ n
+step n k c rest e h = go (eqb n k) (λ q. eqb-true n k q)
+  where
+    go : (b : Bool) → (b ≡ true → n ≡ k) → number_of (whether b (λ _. c) rest) ≡ n
+    go true f = e ∙ sym (f refl)
+    go false f = h
+
+-- the cause of a number has that number
+pub numbered : (n : ℕ) → number_of (cause_of n) ≡ n
+unfolding cause_of
+numbered n =
+    step n 1 WrongImage _ refl (
+    step n 2 ShortScratch _ refl (
+    step n 3 LongSource _ refl (
+    step n 4 UnknownByte _ refl (
+    step n 5 OutOfRange _ refl (
+    step n 6 NotAllowed _ refl (
+    step n 7 WrongName _ refl (
+    step n 8 NameTaken _ refl (
+    step n 9 TooDeep _ refl (
+    step n 10 TooManyNames _ refl (
+    step n 11 NoGlobalLeft _ refl (
+    step n 12 SectorFull _ refl (
+    step n 13 MemoryFull _ refl (
+    step n 14 TooManyValues _ refl (
+    refl))))))))))))))

@@ -1,5 +1,6 @@
 -- The failures of a source by their numbers.
-use Rattle.std.specs.Prelude.{ℕ, ◌≡◌}
+use Rattle.std.specs.Prelude.{ℕ, ◌≡◌, eqb}
+use Rattle.prelude.specs.Choice.{whether}
 use Rattle.grammar.specs.Parse.{Got}
 use Rattle.grammar.specs.Parse.Got.{failed}
 use Rattle.parser.specs.declared.Cause.{Cause}
@@ -23,6 +24,25 @@ number_of SectorFull = 12
 number_of MemoryFull = 13
 number_of TooManyValues = 14
 number_of (Other n) = n
+
+-- the cause that has a number
+unfoldable pub cause_of : ℕ → Cause
+cause_of n =
+    whether (eqb n 1) (λ _. WrongImage) λ _.
+    whether (eqb n 2) (λ _. ShortScratch) λ _.
+    whether (eqb n 3) (λ _. LongSource) λ _.
+    whether (eqb n 4) (λ _. UnknownByte) λ _.
+    whether (eqb n 5) (λ _. OutOfRange) λ _.
+    whether (eqb n 6) (λ _. NotAllowed) λ _.
+    whether (eqb n 7) (λ _. WrongName) λ _.
+    whether (eqb n 8) (λ _. NameTaken) λ _.
+    whether (eqb n 9) (λ _. TooDeep) λ _.
+    whether (eqb n 10) (λ _. TooManyNames) λ _.
+    whether (eqb n 11) (λ _. NoGlobalLeft) λ _.
+    whether (eqb n 12) (λ _. SectorFull) λ _.
+    whether (eqb n 13) (λ _. MemoryFull) λ _.
+    whether (eqb n 14) (λ _. TooManyValues) λ _.
+    Other n
 
 -- a failure is the one that parsing ends in
 abbrev pub Fails : {A : Type 0} → Failure → Got A → Type 0

@@ -5,7 +5,7 @@ ghost use Rattle.std.specs.Prelude.{◌≡◌, ℕ, min};
 ghost use Rattle.source.specs.Tokens.{token_at, failure_at};
 ghost use Rattle.grammar.specs.Parse.{expect as expect_def};
 ghost use Rattle.grammar.specs.Cells.{refuse};
-ghost use Rattle.parser.specs.Failures.{number_of, Fails};
+ghost use Rattle.parser.specs.Failures.{number_of, cause_of, Fails};
 ghost use Rattle.parser.specs.Reads.{Gives};
 
 use source::{Token, kind, token_at};
@@ -58,8 +58,9 @@ impl Cause {
 
 impl From<u16> for Cause {
     /// The cause that has a number.
+    #[tactic(auto, unfolding(crate::specs::Failures::cause_of))]
     fn from(number: u16) -> Cause
-        ensures { number_of result ≡ number }
+        ensures { result ≡ cause_of number }
     {
         match number {
             1 => Cause::WrongImage,
