@@ -19,8 +19,7 @@ use Rattle.runs.proofs.RunLaws.{run_laws}
 use Rattle.compilation.specs.Compile.{Result, compile_def}
 use Rattle.memory_map.proofs.MapLaws.{map_laws}
 use Rattle.parsing_laws.proofs.Parsed.Programs.{numbered, short_enough}
-use Rattle.compiler.specs.declared.Answer.{Answer}
-use Rattle.compiler.specs.Compile.{scratch_words, result_on, answer_of, image_after}
+use Rattle.compiler.specs.Compile.{scratch_words, result_on, answer_of, image_after, Answer}
 use Rattle.compiler.specs.DemandOne.{CompileEnds, RunEnds, Demand1Called}
 use Rattle.layout.specs.Addresses.{memory_words}
 

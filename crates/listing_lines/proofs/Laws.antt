@@ -19,8 +19,12 @@ use Rattle.prelude.specs.Text.{bytes}
 use Rattle.tree.specs.Tree.{Program}
 use Rattle.compilation.specs.Compile.{Result}
 use Rattle.compilation.specs.Listing.{word_lines, listing_def}
-use Rattle.compiler.specs.Compile.{answer_of, image_after}
-use Rattle.compiler.specs.declared.Answer.{Answer}
+use Rattle.std.specs.Prelude.{Ok, Err}
+use Rattle.parser.proofs.Answers.{numbered}
+use Rattle.parser.specs.Failures.{number_of}
+use Rattle.parser.specs.declared.Failure.{Failure}
+use Rattle.compiler.specs.declared.Program.{Program as Counts}
+use Rattle.compiler.specs.Compile.{answer_of, image_after, Answer}
 use Rattle.listing_lines.specs.Texts.{word_line, result_lines, count_lines, result_for, AddsListing, Listed}
 
 -- ---- Words
@@ -78,7 +82,7 @@ words_length name two at (suc n) (w ∷ ws) = simp length-append (omega (arith, 
 pub same_lines : (result : Result) (image : List ℕ) (program : Program) → listing_def (result_for program (answer_of result) (image_after result image)) ≡ listing_def result
 unfolding listing_def answer_of image_after
 same_lines (Result.accepted c) image program = refl
-same_lines (Result.failed n at) image program = refl
+same_lines (Result.failed n at) image program = ap (λ k. listing_def (Result.failed k at)) (numbered n)
 
 -- ---- The whole, which is shorter than the largest offset
 
@@ -86,20 +90,20 @@ module _ {a b : Text} where
   short : {text all : List ℕ} → all ≡ text → Adds a b text → length text ≤ largest → Adds a b all × (length all ≤ largest)
   short e p h = (same_added (sym e) p, let l = ap length e in omega (arith, l, h))
 
-  pub whole_accepted : (image : List ℕ) {o : Answer} {entry words globals : ℕ} → o ≡ Answer.Accepted entry words globals → words < 65536 → globals < 65536
-      → Adds a b (result_lines 0 0 ++ (count_lines entry words globals ++ (word_lines (bytes "g=") 0o200 (take globals (drop 0o200 image)) ++ word_lines (bytes "w=") 0o1000 (take words (drop 0o1000 image)))))
+  pub whole_accepted : (image : List ℕ) {o : Answer} (c : Counts) → o ≡ Ok c → c.words < 65536 → c.globals < 65536
+      → Adds a b (result_lines 0 0 ++ (count_lines c.entry c.words c.globals ++ (word_lines (bytes "g=") 0o200 (take c.globals (drop 0o200 image)) ++ word_lines (bytes "w=") 0o1000 (take c.words (drop 0o1000 image)))))
       → AddsListing o image a b
   unfolding listing_def result_lines count_lines octal_by
-  whole_accepted image {words = words} {globals = globals} e h k p program =
-      let g = words_length (bytes "g=") refl 0o200 globals (drop 0o200 image) in
-      let w = words_length (bytes "w=") refl 0o1000 words (drop 0o1000 image) in
+  whole_accepted image c e h k p program =
+      let g = words_length (bytes "g=") refl 0o200 c.globals (drop 0o200 image) in
+      let w = words_length (bytes "w=") refl 0o1000 c.words (drop 0o1000 image) in
       short (ap (λ x. listing_def (result_for program x image)) e ∙ simp append_assoc) p
-      (simp length-append (omega (arith, h, k, g, w, decimal_length 20 0, decimal_length 20 words, decimal_length 20 globals)))
+      (simp length-append (omega (arith, h, k, g, w, decimal_length 20 0, decimal_length 20 c.words, decimal_length 20 c.globals)))
 
-  pub whole_failed : (image : List ℕ) {o : Answer} {number at : ℕ} → o ≡ Answer.Failed number at → Adds a b (result_lines number at) → AddsListing o image a b
+  pub whole_failed : (image : List ℕ) {o : Answer} (f : Failure) → o ≡ Err f → Adds a b (result_lines (number_of f.cause) f.at) → AddsListing o image a b
   unfolding listing_def result_lines
-  whole_failed image {number = number} {at = at} e p program =
-      short (ap (λ x. listing_def (result_for program x image)) e) p (simp length-append (omega (arith, decimal_length 20 number, decimal_length 20 at)))
+  whole_failed image f e p program =
+      short (ap (λ x. listing_def (result_for program x image)) e) p (simp length-append (omega (arith, decimal_length 20 (number_of f.cause), decimal_length 20 f.at)))
 
   pub whole : {out : List ℕ} (answer : Answer) (image : List ℕ) → a.len ≡ 0 → a.out.now ≡ out → length out ≤ largest → {after : List ℕ} → after ≡ b.out.now → AddsListing answer image a b
       → Listed answer image out after b.len

@@ -7,8 +7,9 @@ ghost use Rattle.text.specs.Adds.{Adds};
 ghost use Rattle.compilation.specs.Listing.{line, word_lines};
 ghost use Rattle.listing_lines.specs.Texts.{word_line, result_lines, count_lines, AddsListing, Listed, longest, ListingLaws};
 
-use compiler::Answer;
+use compiler::Program;
 use layout::addresses;
+use parser::Failure;
 use text::Text;
 
 // The listing of every call of `compile` fits in a buffer of so many bytes (P1).
@@ -74,27 +75,27 @@ fn put_counts(text: &mut Text<'_>, entry: u16, words: u16, globals: u16)
     put_number(text, b"globals=", globals as usize);
 }
 
-fn put_listing(text: &mut Text<'_>, answer: Answer, image: &[u16])
+fn put_listing(text: &mut Text<'_>, answer: Result<Program, Failure>, image: &[u16])
     ensures same_buffer { text.new.out.ghost_name ≡ text.old.out.ghost_name }
     ensures listing { AddsListing answer image.now text.old text.new }
 {
     match answer {
-        Answer::Accepted {
+        Ok(Program {
             entry,
             words,
             globals,
-        } => {
+        }) => {
             put_result(text, 0, 0);
             put_counts(text, entry, words, globals);
             put_words(text, image, b"g=", FIRST_GLOBAL, globals);
             put_words(text, image, b"w=", FIRST_CODE, words);
         }
-        Answer::Failed { number, at } => put_result(text, number, at),
+        Err(failure) => put_result(text, failure.cause.number(), failure.at),
     }
 }
 
 // The listing's bytes, and how many they are.
-pub fn lines(answer: Answer, image: &[u16], out: &mut [u8]) -> usize
+pub fn lines(answer: Result<Program, Failure>, image: &[u16], out: &mut [u8]) -> usize
     ensures { Listed answer image.now out.old out.new result }
 {
     let mut text = Text::new(out);

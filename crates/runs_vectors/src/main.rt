@@ -3,7 +3,7 @@
 #![tactic(auto)]
 
 use case_input::{Numbers, part_end};
-use compiler::{Answer, SCRATCH_WORDS};
+use compiler::SCRATCH_WORDS;
 use machine::{Clock, Machine, Outcome, Report, Request};
 
 mod input;
@@ -11,16 +11,7 @@ mod input;
 // The entry; 0, where no code stands, for a source that is refused.
 fn compile(source: &[u8], image: &mut [u16]) -> u16 {
     let mut scratch = [0u16; SCRATCH_WORDS];
-    let answer = compiler::compile(source, image, &mut scratch);
-    let Answer::Accepted {
-        entry,
-        words: _,
-        globals: _,
-    } = answer
-    else {
-        return 0;
-    };
-    entry
+    compiler::compile(source, image, &mut scratch).map_or(0, |program| program.entry)
 }
 
 // Compiles the source that comes next: its length and its bytes.

@@ -3,13 +3,13 @@ use Rattle.text.proofs.Laws.{and_then}
 use Rattle.listing_lines.proofs.Laws.{whole_accepted, whole_failed}
 use Rattle.listing_lines.proofs.put_listing.Goals as goal
 
-pub returns-in-Accepted : goal.returns-in-Accepted
-returns-in-Accepted c =
-    let all = and_then c.put_result.ensures (and_then c.put_counts.ensures (and_then c.put_words.ensures c.put_words-in-Accepted.ensures)) in
+pub returns-in-Ok : goal.returns-in-Ok
+returns-in-Ok c =
+    let all = and_then c.put_result.ensures (and_then c.put_counts.ensures (and_then c.put_words.ensures c.put_words-in-Ok.ensures)) in
     record {
       same_buffer = all.same_buffer;
-      listing = whole_accepted _ c.in-Accepted.is (omega (arith, c.in-Accepted.known_told-1-own.given)) (omega (arith, c.in-Accepted.known_told-1-own.given)) all;
+      listing = whole_accepted _ _ c.in-Ok.is (omega arith) (omega arith) all;
     }
 
-pub returns-in-Failed : goal.returns-in-Failed
-returns-in-Failed c = record { same_buffer = c.put_result-in-Failed.ensures.same_buffer; listing = whole_failed _ c.in-Failed.is c.put_result-in-Failed.ensures }
+pub returns-in-Err : goal.returns-in-Err
+returns-in-Err c = record { same_buffer = c.put_result-in-Err.ensures.same_buffer; listing = whole_failed _ _ c.in-Err.is (rw c.number.ensures at c.put_result-in-Err.ensures) }
