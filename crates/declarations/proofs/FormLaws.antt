@@ -55,11 +55,6 @@ pub after_more : (ds new : List Declaration) → foldl allocate (allocated ds) n
 unfolding allocated
 after_more ds new = sym (foldl-append allocate start ds new)
 
-pub items_allocation : (st : Allocation) (a : List (Name × Item)) → foldl allocate st (declarations_of a) ≡ with_scope st (foldl declare_item st.scope a)
-unfolding declarations_of allocate
-items_allocation st [] = refl
-items_allocation st (x ∷ xs) = items_allocation (with_scope st (declare_item st.scope x)) xs
-
 declarations_append : (a b : List (Name × Item)) → declarations_of (a ++ b) ≡ declarations_of a ++ declarations_of b
 unfolding declarations_of
 declarations_append [] b = refl
