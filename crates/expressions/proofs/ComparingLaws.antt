@@ -1,6 +1,8 @@
 -- What follows a condition's expression, and the condition of both.
-use Prim.Native.Nat.{ℕ, suc, ◌+◌, ◌-◌, ◌≤◌, ◌<◌}
-use mathlib.Core.Path.{◌≡◌, refl, sym, ap, ◌∙◌}
+use Prim.Native.Nat.{ℕ, ◌+◌}
+use mathlib.Core.Path.{◌≡◌, refl, sym, ap, ap₂, ◌∙◌}
+use mathlib.Core.Bool.{Bool, true, false}
+use Rattle.std.specs.Prelude.{Option as Found, Some, None, Result, Ok, Err}
 use mathlib.Core.List.{List, [], ◌∷◌}
 use mathlib.Core.Option.{Option, none, some}
 use native.Mathlib.Omega.{arith}
@@ -19,54 +21,53 @@ use Rattle.layout.specs.Words.{Sym, ◌⧺◌, cell_words, controls, control_wor
 use Rattle.grammar.specs.Cells.{parse_lone_cell}
 use Rattle.grammar.specs.Expressions.{cond_from, parse_cond}
 use Rattle.parser.specs.declared.Part.{Part}
+use Rattle.parser.specs.declared.Failure.{Failure}
+use Rattle.parser.specs.Failures.{number_of}
+use Rattle.emitter.specs.declared.Output.{Output}
+use Rattle.emitter.specs.Emitted.{emitted_by}
+use Rattle.expressions.specs.declared.Guarded.{Guarded}
 use Rattle.layout.specs.Emission.{Emitted, Bases}
-use Rattle.emitter.proofs.Lays.{kept_here, kept_then, after_words, same_forward}
+use Rattle.emitter.proofs.Lays.{here, kept_image, after_words, same_forward}
 use Rattle.layout_laws.proofs.Spans.{expr_end_lem}
-use Rattle.expressions.specs.Vocabulary.{number_in}
+use Rattle.expressions.specs.Vocabulary.{looked_up, stands_in}
 use Rattle.expressions.specs.Chains.{Comparison, cond_of, comparison_of, relation_words, comparison_words}
 use Rattle.expressions.specs.Compiles.{Compiles, Tests, Compares, AlwaysForwardJump, Related}
-use Rattle.expressions.proofs.VocabularyLaws.{as_row, as_some, as_none}
+use Rattle.expressions.proofs.VocabularyLaws.{as_row, as_some, as_none, standing, as_standing, not_standing}
 use Rattle.parser.proofs.Answers.{then_got, then_failed}
 use Rattle.parser.specs.Reads.Reads.{read, fails}
 use Rattle.parser.proofs.ReadLaws.{came, pass, reads_on}
 
-pub none_left : (n : ℕ) → n ≤ 0 → 0 ≡ n
-none_left n h = omega (arith, h)
-
-less_one : (n m : ℕ) → n ≡ suc m → n - 1 ≡ m
-less_one n m e = omega (arith, e)
-
 -- ---- A comparison
 
 -- after the relation
-module _ {f : Bases} {kind : ℕ} {a b : Emitted} {part : Part} {g : Got Cell} (h : Compiles f (λ c _. cell_words CAS c) a b part g) where
-  pub related_failed : {k p : ℕ} → part ≡ Part.Failed k p → Compares f kind a b 0 part g
-  related_failed q = record { tests = λ i. pass _ h q refl (λ w. (w, refl)) }
+module _ {f : Bases} {kind : ℕ} {a : Emitted} {after : List ℕ} {r : Result (Part Output) Failure} {g : Got Cell} (h : Compiles f (λ c _. cell_words CAS c) a after r g) where
+  pub related_failed : {e : Failure} → r ≡ Err e → Compares f kind a after (Err e) g
+  related_failed i = record { tests = λ k. pass _ h i refl (λ w. w) }
 
-  pub related_read : {c : Emitted} {place n : ℕ} → part ≡ Part.Read n → Related kind b c place → Compares f kind a c place part g
+  pub related_read : {p : Part Output} {j : Guarded} {last : List ℕ} → r ≡ Ok p → Related kind (emitted_by p.value after) (emitted_by j.output last) j.hole → Compares f kind a last (Ok (record { value = j; next = p.next })) g
   unfolding comparison_words
-  related_read q k =
-      let v = came h q in record { tests = λ i. read (then_got _ v.is) q (same_forward (λ at z. refl) (after_words v.holds (k.forward f i))) }
+  related_read i k =
+      let v = came h i in record { tests = λ q. read (then_got _ v.is) refl (same_forward (λ at z. refl) (after_words v.holds (k.forward f q))) }
 
-module _ (source : List ℕ) (names : Names) (at : ℕ) (t : Token) (e : t ≡ token_at source at) {f : Bases} where
-  pub relation_compared : {a b : Emitted} {place : ℕ} {part : Part} (n : ℕ) → n ≡ number_in relations (λ _. 0) t.kind → 0 < n
-      → Compares f t.kind a b place part (parse_lone_cell source names t.next) → Tests f comparison_words a b place part (comparison_of source names (token_at source at))
+module _ (source : List ℕ) (names : Names) (at : ℕ) (t : Token) (e : t ≡ token_at source at) {b : Bool} (related : b ≡ stands_in relations t.kind) {f : Bases} {a : Emitted} where
+  pub relation_compared : {after : List ℕ} {r : Result (Part Guarded) Failure} → b ≡ true → Compares f t.kind a after r (parse_lone_cell source names t.next) → Tests f comparison_words a after r (comparison_of source names (token_at source at))
   unfolding comparison_of
-  relation_compared n q h k =
-      let r = as_row relations (λ _. 0) t.kind n q h in reads_on (ap (comparison_of source names) (sym e) ∙ as_some relations (λ _. 0) t _ _ r) (k.tests r.found)
+  relation_compared h k =
+      let row = standing relations t.kind related h in reads_on (ap (comparison_of source names) (sym e) ∙ as_standing relations t _ _ row) (k.tests row.found)
 
-  pub test_read : {a b : Emitted} {place : ℕ} (n : ℕ) → 0 ≡ number_in relations (λ _. 0) t.kind → n ≡ number_in tests test_slot t.kind → 0 < n
-      → AlwaysForwardJump a b (λ at z. Sym.generic (n - 1) ∷ Sym.jump z ∷ []) place → Tests f comparison_words a b place (Part.Read t.next) (comparison_of source names (token_at source at))
-  unfolding comparison_of comparison_words
-  test_read n z q h k =
-      let r = as_row tests test_slot t.kind n q h in
-      read (ap (comparison_of source names) (sym e) ∙ (as_none relations (λ _. 0) t _ _ z ∙ as_some tests test_slot t _ _ r)) refl
-      (same_forward (λ at z. ap (λ x. Sym.generic x ∷ Sym.jump z ∷ []) (less_one n (test_slot r.row.1) r.is)) (k.forward f))
+  module _ (no : b ≡ false) {s : Found ℕ} (tested : s ≡ looked_up tests test_slot t.kind) where
+    pub test_read : {n : ℕ} {after : List ℕ} {j : Guarded} → s ≡ Some n → AlwaysForwardJump a (emitted_by j.output after) (λ at z. Sym.generic n ∷ Sym.jump z ∷ []) j.hole
+        → Tests f comparison_words a after (Ok (record { value = j; next = t.next })) (comparison_of source names (token_at source at))
+    unfolding comparison_of comparison_words
+    test_read h k =
+        let r = as_row tests test_slot t.kind tested h in
+        read (ap (comparison_of source names) (sym e) ∙ (not_standing relations t _ _ related no ∙ as_some tests test_slot t _ _ r)) refl
+        (same_forward (λ at z. ap (λ x. Sym.generic x ∷ Sym.jump z ∷ []) r.is) (k.forward f))
 
-  pub no_comparison : {a : Emitted} → 0 ≡ number_in relations (λ _. 0) t.kind → 0 ≡ number_in tests test_slot t.kind
-      → Tests f comparison_words a a 0 (Part.Failed (failure_at t 6) t.at) (comparison_of source names (token_at source at))
-  unfolding comparison_of fail_at
-  no_comparison z q = fails (ap (comparison_of source names) (sym e) ∙ (as_none relations (λ _. 0) t _ _ z ∙ as_none tests test_slot t _ _ q)) refl (kept_here, refl)
+    pub no_comparison : {x : Failure} → s ≡ None → number_of x.cause ≡ failure_at t 6 → x.at ≡ t.at → Tests f comparison_words a a.image (Err x) (comparison_of source names (token_at source at))
+    unfolding comparison_of fail_at
+    no_comparison h n p =
+        fails (ap (comparison_of source names) (sym e) ∙ (not_standing relations t _ _ related no ∙ (as_none tests test_slot t _ _ tested h ∙ ap₂ (λ k i. failed k i) (sym n) (sym p)))) refl here
 
 -- ---- A condition
 
@@ -99,29 +100,29 @@ cond_words_lem e (Comparison.relation r c) at z =
     ap (λ x. expr_words e at ⧺ cell_words CAS c ⧺ control_words x z (controls r)) end
 cond_words_lem e (Comparison.test t) at z = refl
 
-module _ (source : List ℕ) (names : Names) (expr : ℕ → Got Expr) (at : ℕ) (t : Token) (e : t ≡ token_at source at) where
-  pub not_bare : 0 ≡ number_in bares bare_slot t.kind → parse_cond source names expr at ≡ and_then (expr at) (λ e n. cond_from source names e (token_at source n))
+module _ (source : List ℕ) (names : Names) (expr : ℕ → Got Expr) (at : ℕ) (t : Token) (e : t ≡ token_at source at) {b : Found ℕ} (alone : b ≡ looked_up bares bare_slot t.kind) where
+  not_bare : b ≡ None → parse_cond source names expr at ≡ and_then (expr at) (λ e n. cond_from source names e (token_at source n))
   unfolding parse_cond
-  not_bare z = ap (λ x. as_one_of bares x (λ b. got (Cond.bare b) x.next) (λ _. and_then (expr at) (λ e n. cond_from source names e (token_at source n)))) (sym e) ∙ as_none bares bare_slot t _ _ z
+  not_bare h =
+      ap (λ x. as_one_of bares x (λ b. got (Cond.bare b) x.next) (λ _. and_then (expr at) (λ e n. cond_from source names e (token_at source n)))) (sym e) ∙ as_none bares bare_slot t _ _ alone h
 
-module _ (source : List ℕ) (names : Names) (expr : ℕ → Got Expr) (at : ℕ) (t : Token) (e : t ≡ token_at source at) {f : Bases} where
-  pub bare_read : {a b : Emitted} {place : ℕ} (n : ℕ) → n ≡ number_in bares bare_slot t.kind → 0 < n
-      → AlwaysForwardJump a b (λ at z. Sym.generic (n - 1) ∷ Sym.jump z ∷ []) place → Tests f cond_words a b place (Part.Read t.next) (parse_cond source names expr at)
+  pub bare_read : {f : Bases} {a : Emitted} {after : List ℕ} {n : ℕ} {j : Guarded} → b ≡ Some n → AlwaysForwardJump a (emitted_by j.output after) (λ at z. Sym.generic n ∷ Sym.jump z ∷ []) j.hole
+      → Tests f cond_words a after (Ok (record { value = j; next = t.next })) (parse_cond source names expr at)
   unfolding parse_cond cond_words
-  bare_read n q h k =
-      let r = as_row bares bare_slot t.kind n q h in
+  bare_read {f} h k =
+      let r = as_row bares bare_slot t.kind alone h in
       read (ap (λ x. as_one_of bares x (λ b. got (Cond.bare b) x.next) (λ _. and_then (expr at) (λ e n. cond_from source names e (token_at source n)))) (sym e) ∙ as_some bares bare_slot t _ _ r) refl
-      (same_forward (λ at z. ap (λ x. Sym.generic x ∷ Sym.jump z ∷ []) (less_one n (bare_slot r.row.1) r.is)) (k.forward f))
+      (same_forward (λ at z. ap (λ x. Sym.generic x ∷ Sym.jump z ∷ []) r.is) (k.forward f))
 
-  pub value_failed : {a b : Emitted} {k p : ℕ} {part : Part} → 0 ≡ number_in bares bare_slot t.kind → Compiles f expr_words a b part (expr at) → part ≡ Part.Failed k p
-      → Tests f cond_words a b 0 part (parse_cond source names expr at)
-  value_failed z h q = pass _ h q (not_bare source names expr at t e z) (λ w. (w, refl))
+  module _ (no : b ≡ None) {f : Bases} {a : Emitted} {after : List ℕ} {r : Result (Part Output) Failure} (h : Compiles f expr_words a after r (expr at)) where
+    pub value_failed : {x : Failure} → r ≡ Err x → Tests f cond_words a after (Err x) (parse_cond source names expr at)
+    value_failed i = pass _ h i (not_bare no) (λ w. w)
 
-  pub value_compared : {a b c : Emitted} {place n : ℕ} {part end : Part} → 0 ≡ number_in bares bare_slot t.kind → Compiles f expr_words a b part (expr at) → part ≡ Part.Read n
-      → Tests f comparison_words b c place end (comparison_of source names (token_at source n)) → Tests f cond_words a c place end (parse_cond source names expr at)
-  value_compared {n = n} z h q (read {t = c} i p l) =
-      let v = came h q in
-      read (not_bare source names expr at t e z ∙ then_got _ v.is ∙ cond_from_lem source names v.tree (token_at source n) ∙ then_got _ i) p (same_forward (cond_words_lem v.tree c) (after_words v.holds l))
-  value_compared {n = n} z h q (fails i p w) =
-      let v = came h q in
-      fails (not_bare source names expr at t e z ∙ then_got _ v.is ∙ cond_from_lem source names v.tree (token_at source n) ∙ then_failed _ i) p (kept_then v.holds.kept w.0, w.1)
+    pub value_compared : {p : Part Output} {last : List ℕ} {end : Result (Part Guarded) Failure} → r ≡ Ok p → Tests f comparison_words (emitted_by p.value after) last end (comparison_of source names (token_at source p.next))
+        → Tests f cond_words a last end (parse_cond source names expr at)
+    value_compared {p = p} i (read {t = c} is q l) =
+        let v = came h i in
+        read (not_bare no ∙ then_got _ v.is ∙ cond_from_lem source names v.tree (token_at source p.next) ∙ then_got _ is) q (same_forward (cond_words_lem v.tree c) (after_words v.holds l))
+    value_compared {p = p} i (fails is q w) =
+        let v = came h i in
+        fails (not_bare no ∙ then_got _ v.is ∙ cond_from_lem source names v.tree (token_at source p.next) ∙ then_failed _ is) q (kept_image v.holds.kept w)

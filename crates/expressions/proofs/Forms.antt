@@ -1,56 +1,67 @@
 -- The forms of an expression, each from what its parts were compiled as.
 use Prim.Native.Nat.{ℕ, zero, suc, ◌+◌, ◌-◌}
 use mathlib.Core.Path.{◌≡◌, refl, sym, ap, ◌∙◌}
-use mathlib.Core.Bool.{Bool, true, false}
+use mathlib.Core.Bool.{true, false}
 use mathlib.Core.List.{List, [], ◌∷◌}
-use mathlib.Core.Option.{Option, none, some}
 use native.Mathlib.Omega.{arith}
 use borrow.Author.Tests.{eq-eqb, ne_eqb}
-use lib.Dec.{eqb}
 use lib.ListN.{length, get_or}
-use Rattle.prelude.specs.Choice.{whether, find, given}
 use Rattle.source.specs.Kinds
 use Rattle.source.specs.declared.Token.{Token}
-use Rattle.source.specs.Tokens.{token_at, failure_at}
+use Rattle.source.specs.Tokens.{token_at}
 use Rattle.instruction.specs.Opcode.{LDA, JST, JMP}
 use Rattle.instruction.specs.Slot.{CRA}
 use Rattle.instruction.specs.Table.{table_of}
 use Rattle.tree.specs.Tree.{Unary, Operation, Cell, Expr, Term, Cond}
 use Rattle.tree.specs.Symbols.{Names}
-use Rattle.grammar.specs.Parse.{Got, and_then, fail_at, expect}
-use Rattle.grammar.specs.Vocabulary.{unaries}
+use Rattle.grammar.specs.Parse.{Got, and_then, expect}
 use Rattle.grammar.specs.Cells.{cell_from}
-use Rattle.grammar.specs.Parse.Got.{got, failed}
+use Rattle.grammar.specs.Parse.Got.{got}
 use Rattle.layout.specs.Words.{Sym, ◌⧺◌, cell_words, unaries_words, operations_words, expr_end, cond_end, expr_words, term_words, cond_words}
 use Rattle.grammar.specs.Expressions.{term_start, term_from, parse_bracketed, parse_call, parse_unaries, parse_operations, parse_chain, parse_cond, parse_choice, parse_expr}
 use Rattle.grammar.specs.Expressions as expressions
 use Rattle.layout.specs.Map.{reference}
+use Rattle.std.specs.Prelude.{Result, Ok, Err}
 use Rattle.parser.specs.declared.Part.{Part}
+use Rattle.parser.specs.declared.Failure.{Failure}
+use Rattle.parser.specs.Failures.{Fails}
+use Rattle.parser.specs.Reads.{Gives}
+use Rattle.parser.specs.Reads.Reads.{read, fails}
 use Rattle.cells.specs.declared.CellStart.{CellStart}
 use Rattle.cells.specs.declared.TermStart.{TermStart}
-use Rattle.parser.specs.Answers.{part_of}
 use Rattle.cells.specs.Answers.{tree_cell_start, tree_term_start}
 use Rattle.layout.specs.Emission.{Emitted, with_word, Bases}
-use Rattle.emitter.specs.Lays.{Lays}
-use Rattle.emitter.proofs.Lays.{append_assoc, append_length, filled_in, kept_here, kept_then, kept_set, nothing, sequence, same, before_rest}
+use Rattle.emitter.specs.declared.Output.{Output}
+use Rattle.emitter.specs.Emitted.{emitted_by}
+use Rattle.emitter.specs.Lays.{Lays, filled}
+use Rattle.emitter.proofs.Lays.{append_assoc, append_length, filled_in, here, of_kept, kept_image, kept_then, kept_set, nothing, sequence, same, before_rest}
 use Rattle.layout_laws.proofs.Spans.{expr_end_lem, cond_end_lem}
+use Rattle.expressions.specs.declared.Guarded.{Guarded}
 use Rattle.expressions.specs.Chains.{unaries_of, unaries_next, else_expr}
 use Rattle.expressions.specs.Compiles.{Compiles, Tests, Alternates, Always, AlwaysForwardJump}
 use Rattle.expressions.proofs.Leaves as leaves
 use Rattle.expressions.proofs.UnaryLaws.{unaries_parsed}
 use Rattle.expressions.proofs.Branches.{branch_words, branches}
-use Rattle.parser.proofs.Answers.{then_got, then_failed, part_read}
-use Rattle.parser.specs.Reads.Reads.{read, fails}
-use Rattle.parser.proofs.ReadLaws.{then_then, came, pass, missing, reads_as, ended_by}
-use Rattle.expressions.proofs.Compiles.{as_tree}
+use Rattle.parser.proofs.Answers.{gives_read, then_got, then_failed}
+use Rattle.parser.proofs.ReadLaws.{then_then, came, failed_as, kept_as, pass, missing, reads_as}
+use Rattle.expressions.proofs.Compiles.{failing, as_tree}
+
+abbrev Reading : Type 0 → Type 0
+Reading X = Result (Part X) Failure
+
+abbrev Answer : Type 0
+Answer = Reading Output
 
 -- ---- Brackets and calls
 
-module _ (source : List ℕ) (names : Names) (inner : ℕ → Got Expr) (at : ℕ) {f : Bases} {a b : Emitted} where
-  pub bracketed_closed : {part p : Part} {n : ℕ} → Compiles f expr_words a b part (inner at) → part ≡ Part.Read n → p ≡ part_of (expect Kinds.right_parenthesis source n)
-      → Compiles f expr_words a b p (parse_bracketed source names inner at)
+module _ (source : List ℕ) (names : Names) (inner : ℕ → Got Expr) (at : ℕ) {f : Bases} {a : Emitted} {after : List ℕ} {r : Answer} {p : Part Output} (h : Compiles f expr_words a after r (inner at)) (i : r ≡ Ok p) {close : Reading Token} (g : Gives (λ t. t) close (expect Kinds.right_parenthesis source p.next)) where
+  pub close_missing : {e : Failure} → close ≡ Err e → Compiles f expr_words a after (Err e) (parse_bracketed source names inner at)
   unfolding parse_bracketed
-  bracketed_closed {n = n} h e q = let v = came h e in ended_by v.tree (expect Kinds.right_parenthesis source n) (then_got _ v.is) q v.holds v.holds.kept
+  close_missing k = let v = came h i in missing (λ t. t) _ _ g k (then_got _ v.is) (of_kept v.holds.kept)
+
+  pub bracketed_closed : {q : Part Token} → close ≡ Ok q → Compiles f expr_words a after (Ok (record { value = p.value; next = q.next })) (parse_bracketed source names inner at)
+  unfolding parse_bracketed
+  bracketed_closed k = let v = came h i in read (then_got _ v.is ∙ then_got _ (gives_read (λ t. t) g k)) refl v.holds
 
 module _ (source : List ℕ) (names : Names) (inner : ℕ → Got Expr) (p at : ℕ) (t : Token) (e : t ≡ token_at source at) where
   call_alone : (t.kind ≡ Kinds.left_parenthesis → ⊥) → parse_call source names inner (Term.call p) (Term.call_with p) at ≡ got (Term.call p) at
@@ -61,19 +72,19 @@ module _ (source : List ℕ) (names : Names) (inner : ℕ → Got Expr) (p at : 
   unfolding parse_call
   call_with_lem n = rw (← e, eq-eqb t.kind Kinds.left_parenthesis n)
 
-  pub called_alone : {f : Bases} {a b : Emitted} → (t.kind ≡ Kinds.left_parenthesis → ⊥) → b ≡ with_word a (reference JST true (0o200 + p))
-      → Compiles f term_words a b (Part.Read at) (parse_call source names inner (Term.call p) (Term.call_with p) at)
+  pub called_alone : {f : Bases} {a : Emitted} {o : Output} {after : List ℕ} → (t.kind ≡ Kinds.left_parenthesis → ⊥) → emitted_by o after ≡ with_word a (reference JST true (0o200 + p))
+      → Compiles f term_words a after (Ok (record { value = o; next = at })) (parse_call source names inner (Term.call p) (Term.call_with p) at)
   unfolding term_words
   called_alone {f} n h = read (call_alone n) refl (leaves.call f p h)
 
-  pub call_failed : {f : Bases} {a b : Emitted} {part : Part} {k q : ℕ} → t.kind ≡ Kinds.left_parenthesis → Compiles f expr_words a b part (parse_bracketed source names inner t.next) → part ≡ Part.Failed k q
-      → Compiles f term_words a b part (parse_call source names inner (Term.call p) (Term.call_with p) at)
-  call_failed n h q = pass _ h q (call_with_lem n) (λ w. w)
+  module _ {f : Bases} {a : Emitted} {after : List ℕ} {r : Answer} (n : t.kind ≡ Kinds.left_parenthesis) (h : Compiles f expr_words a after r (parse_bracketed source names inner t.next)) where
+    pub call_failed : {e : Failure} → r ≡ Err e → Compiles f term_words a after r (parse_call source names inner (Term.call p) (Term.call_with p) at)
+    call_failed i = failing _ h i (call_with_lem n) (λ w. w)
 
-  pub called_with : {f : Bases} {a b c : Emitted} {part : Part} {m : ℕ} → t.kind ≡ Kinds.left_parenthesis → Compiles f expr_words a b part (parse_bracketed source names inner t.next) → part ≡ Part.Read m
-      → c ≡ with_word b (reference JST true (0o200 + p)) → Compiles f term_words a c (Part.Read m) (parse_call source names inner (Term.call p) (Term.call_with p) at)
-  unfolding term_words
-  called_with {f} n h q i = let v = came h q in read (call_with_lem n ∙ then_got _ v.is) refl (sequence v.holds (leaves.call f p i))
+    pub called_with : {q : Part Output} {o : Output} {last : List ℕ} → r ≡ Ok q → emitted_by o last ≡ with_word (emitted_by q.value after) (reference JST true (0o200 + p))
+        → Compiles f term_words a last (Ok (record { value = o; next = q.next })) (parse_call source names inner (Term.call p) (Term.call_with p) at)
+    unfolding term_words
+    called_with i k = let v = came h i in read (call_with_lem n ∙ then_got _ v.is) refl (sequence v.holds (leaves.call f p k))
 
 -- ---- Terms
 
@@ -102,26 +113,25 @@ chain_words : (us : List Unary) (t : Term) (os : List Operation) (at : ℕ) → 
 unfolding expr_words
 chain_words us t os at = append_assoc (term_words t at) (unaries_words us) (operations_words os)
 
-module _ (source : List ℕ) (names : Names) (inner : ℕ → Got Expr) (at from : ℕ) (parsed : parse_unaries source names at ≡ got (unaries_of source at) from) where
-  pub start_failed : {f : Bases} {a : Emitted} {part : Part} {k q : ℕ} → term_start source names (token_at source from) ≡ failed k q → part ≡ Part.Failed k q
-      → Compiles f expr_words a a part (parse_chain source names inner at)
+module _ (source : List ℕ) (names : Names) (inner : ℕ → Got Expr) (at from : ℕ) (parsed : parse_unaries source names at ≡ got (unaries_of source at) from) {start : Reading TermStart} (g : Gives tree_term_start start (term_start source names (token_at source from))) where
+  pub start_failed : {f : Bases} {a : Emitted} {e : Failure} → start ≡ Err e → Compiles f expr_words a a.image (Err e) (parse_chain source names inner at)
   unfolding parse_chain
-  start_failed h e = fails (then_got _ parsed ∙ then_failed _ h) e kept_here
+  start_failed i = missing tree_term_start _ _ g i (then_got _ parsed) here
 
-  module _ {start : expressions.TermStart} {m : ℕ} (h : term_start source names (token_at source from) ≡ got start m) where
-    pub term_failed : {f : Bases} {a b : Emitted} {part : Part} {k q : ℕ} → Compiles f term_words a b part (term_from source names inner start m) → part ≡ Part.Failed k q
-        → Compiles f expr_words a b part (parse_chain source names inner at)
+  module _ {p : Part TermStart} (i : start ≡ Ok p) {f : Bases} {a : Emitted} {after : List ℕ} {r : Answer} (h : Compiles f term_words a after r (term_from source names inner (tree_term_start p.value) p.next)) where
+    pub term_failed : {e : Failure} → r ≡ Err e → Compiles f expr_words a after r (parse_chain source names inner at)
     unfolding parse_chain
-    term_failed t e = pass _ t e (then_got _ parsed ∙ then_got _ h) (λ w. w)
+    term_failed k = failing _ h k (then_got _ parsed ∙ then_got _ (gives_read tree_term_start g i)) (λ w. w)
 
-    pub chained : {f : Bases} {a b c d : Emitted} {part end : Part} {k : ℕ} → Compiles f term_words a b part (term_from source names inner start m) → part ≡ Part.Read k
-        → Always b c (λ _. unaries_words (unaries_of source at)) → Compiles f (λ os _. operations_words os) c d end (parse_operations source names k) → Compiles f expr_words a d end (parse_chain source names inner at)
+    pub chained : {q : Part Output} {c : Emitted} {last : List ℕ} {end : Answer} → r ≡ Ok q → Always (emitted_by q.value after) c (λ _. unaries_words (unaries_of source at))
+        → Compiles f (λ os _. operations_words os) c last end (parse_operations source names q.next) → Compiles f expr_words a last end (parse_chain source names inner at)
     unfolding parse_chain
-    chained {f} t e u (read {t = os} i p l) =
-        let v = came t e in
-        read (then_got _ parsed ∙ then_got _ h ∙ then_got _ v.is ∙ then_got _ i) p (same (chain_words (unaries_of source at) v.tree os) (sequence (sequence v.holds (u.lays f)) l))
-    chained {f} t e u (fails i p w) =
-        let v = came t e in fails (then_got _ parsed ∙ then_got _ h ∙ then_got _ v.is ∙ then_failed _ i) p (kept_then v.holds.kept (kept_then (u.lays f).kept w))
+    chained k u (read {t = os} is e l) =
+        let v = came h k in
+        read (then_got _ parsed ∙ then_got _ (gives_read tree_term_start g i) ∙ then_got _ v.is ∙ then_got _ is) e (same (chain_words (unaries_of source at) v.tree os) (sequence (sequence v.holds (u.lays f)) l))
+    chained k u (fails is e w) =
+        let v = came h k in
+        fails (then_got _ parsed ∙ then_got _ (gives_read tree_term_start g i) ∙ then_got _ v.is ∙ then_failed _ is) e (kept_image (kept_then v.holds.kept (u.lays f).kept) w)
 
 -- ---- Choices
 
@@ -132,64 +142,77 @@ choose_words c s t at =
     let e : at + length (cond_words c at 0 ⧺ expr_words s (cond_end c at)) ≡ expr_end s (cond_end c at) = omega (arith, n, cond_end_lem c at 0, expr_end_lem s (cond_end c at)) in
     rw (cond_end_lem c at 0, e, expr_end_lem t (suc (expr_end s (cond_end c at)))) (append_assoc (cond_words c at _) (expr_words s (cond_end c at)) _)
 
-module _ (source : List ℕ) (names : Names) (inner : ℕ → Got Expr) (at : ℕ) {f : Bases} where
-  pub test_failed : {a b : Emitted} {hole k q : ℕ} {part : Part} → Tests f cond_words a b hole part (parse_cond source names inner at) → part ≡ Part.Failed k q
-      → Compiles f expr_words a b part (parse_choice source names inner at)
+module _ (source : List ℕ) (names : Names) (inner : ℕ → Got Expr) (at : ℕ) {f : Bases} {a : Emitted} {after : List ℕ} {r : Reading Guarded} (h : Tests f cond_words a after r (parse_cond source names inner at)) where
+  pub test_failed : {e : Failure} → r ≡ Err e → Compiles f expr_words a after (Err e) (parse_choice source names inner at)
   unfolding parse_choice
-  test_failed h e = pass _ h e refl (λ w. w.0)
+  test_failed i = pass _ h i refl (λ w. w)
 
-  module _ {a b : Emitted} {hole n : ℕ} {part : Part} (h : Tests f cond_words a b hole part (parse_cond source names inner at)) (e : part ≡ Part.Read n) where
-    pub then_missing : {k q : ℕ} {then : Part} → then ≡ part_of (expect Kinds.THEN source n) → then ≡ Part.Failed k q → Compiles f expr_words a b then (parse_choice source names inner at)
+  module _ {p : Part Guarded} (i : r ≡ Ok p) {then : Reading Token} (g : Gives (λ t. t) then (expect Kinds.THEN source p.next)) where
+    pub then_missing : {e : Failure} → then ≡ Err e → Compiles f expr_words a after (Err e) (parse_choice source names inner at)
     unfolding parse_choice
-    then_missing g q = let v = came h e in missing _ _ g q (then_got _ v.is) v.holds.lays.kept
+    then_missing k = let v = came h i in missing (λ t. t) _ _ g k (then_got _ v.is) (of_kept v.holds.lays.kept)
 
-    module _ {m : ℕ} {then : Part} (g : then ≡ part_of (expect Kinds.THEN source n)) (q : then ≡ Part.Read m) where
-      pub first_failed : {c : Emitted} {k p : ℕ} {one : Part} → Compiles f expr_words b c one (inner m) → one ≡ Part.Failed k p → Compiles f expr_words a c one (parse_choice source names inner at)
+    module _ {q : Part Token} (k : then ≡ Ok q) {image : List ℕ} {one : Answer} (l : Compiles f expr_words (emitted_by p.value.output after) image one (inner q.next)) where
+      pub first_failed : {e : Failure} → one ≡ Err e → Compiles f expr_words a image one (parse_choice source names inner at)
       unfolding parse_choice
-      first_failed i j = let v = came h e in pass _ i j (then_got _ v.is ∙ then_got _ (part_read _ g q).is) (kept_then v.holds.lays.kept)
+      first_failed j = let v = came h i in failing _ l j (then_got _ v.is ∙ then_got _ (gives_read (λ t. t) g k)) (kept_image v.holds.lays.kept)
 
-      pub chosen : {c d x : Emitted} {k place : ℕ} {one two : Part} → Compiles f expr_words b c one (inner m) → one ≡ Part.Read k
-          → AlwaysForwardJump c d (λ at z. Sym.jump z ∷ []) place → Alternates f expr_words (filled_in d hole d.next) x place two (else_expr source inner k)
-          → Compiles f expr_words a x two (parse_choice source names inner at)
+      pub chosen : {u : Part Output} {d : Emitted} {place : ℕ} {last : List ℕ} {two : Answer} → one ≡ Ok u → AlwaysForwardJump (emitted_by u.value image) d (λ at z. Sym.jump z ∷ []) place
+          → Alternates f expr_words (filled_in d p.value.hole d.next) last place two (else_expr source inner u.next) → Compiles f expr_words a last two (parse_choice source names inner at)
       unfolding parse_choice else_expr
-      chosen {d = d} {k = k} i j l r =
-          let v = came h e in
-          let u = came i j in
-          let first = before_rest v.holds u.holds in
-          let lays = before_rest first (l.forward f).lays in
-          reads_as (Expr.choose v.tree u.tree) r refl
-          (then_got _ v.is ∙ then_got _ (part_read _ g q).is ∙ then_got _ u.is ∙ then_then (expect Kinds.ELSE source k) (λ _ l. inner l) (λ f next. got (Expr.choose v.tree u.tree f) next))
-          (λ t o. rw o.is (same (choose_words v.tree u.tree t) (branches first (l.forward f) o.lays)))
-          (kept_then (kept_set hole (reference JMP false d.next) lays.inside lays.lays.kept))
+      chosen {u} {d} j m n =
+          let v = came h i in
+          let w = came l j in
+          let first = before_rest v.holds w.holds in
+          let lays = before_rest first (m.forward f).lays in
+          reads_as (Expr.choose v.tree w.tree) n
+          (then_got _ v.is ∙ then_got _ (gives_read (λ t. t) g k) ∙ then_got _ w.is ∙ then_then (expect Kinds.ELSE source u.next) (λ _ l. inner l) (λ f next. got (Expr.choose v.tree w.tree f) next))
+          (λ t x o. rw o.is (same (choose_words v.tree w.tree t) (branches first (m.forward f) o.lays)))
+          (kept_image (kept_set p.value.hole (reference JMP false d.next) lays.inside lays.lays.kept))
 
 -- what comes after a state that is known otherwise
-pub from_state : {f : Bases} {a a' x : Emitted} {place : ℕ} {part : Part} {g : Got Expr} → a ≡ a' → Alternates f expr_words a x place part g → Alternates f expr_words a' x place part g
+pub from_state : {f : Bases} {a a' : Emitted} {after : List ℕ} {place : ℕ} {r : Answer} {g : Got Expr} → a ≡ a' → Alternates f expr_words a after place r g → Alternates f expr_words a' after place r g
 from_state e h = rw (← e) h
+
+-- the second part
+module _ (source : List ℕ) (inner : ℕ → Got Expr) (at : ℕ) {f : Bases} {a : Emitted} {otherwise : Reading Token} (g : Gives (λ t. t) otherwise (expect Kinds.ELSE source at)) where
+  pub else_missing : {place : ℕ} {e : Failure} → otherwise ≡ Err e → Alternates f expr_words a a.image place (Err e) (else_expr source inner at)
+  unfolding else_expr
+  else_missing i = missing (λ t. t) _ _ g i refl here
+
+  module _ {q : Part Token} (i : otherwise ≡ Ok q) {after : List ℕ} {r : Answer} (h : Compiles f expr_words a after r (inner q.next)) where
+    pub second_failed : {place : ℕ} {e : Failure} → r ≡ Err e → Alternates f expr_words a after place r (else_expr source inner at)
+    unfolding else_expr
+    second_failed k = fails (then_got _ (gives_read (λ t. t) g i) ∙ failed_as h k) k (kept_as h k)
+
+    pub second_read : {place : ℕ} {p : Part Output} {last : List ℕ} → r ≡ Ok p → last ≡ filled after place p.value.next → Alternates f expr_words a last place (Ok p) (else_expr source inner at)
+    unfolding else_expr
+    second_read {p = p} k e = let v = came h k in read (then_got _ (gives_read (λ t. t) g i) ∙ v.is) refl (record { end = _; lays = v.holds; is = ap (emitted_by p.value) e })
 
 -- ---- Terms, by how they begin
 
-module _ (source : List ℕ) (names : Names) (inner : ℕ → Got Expr) (at : ℕ) {f : Bases} {a b : Emitted} {start : TermStart} where
-  pub begins_cell : {c : CellStart} {part : Part} → start ≡ TermStart.Cell c → Compiles f (λ c _. cell_words LDA c) a b part (cell_from source names (tree_cell_start c) at)
-      → Compiles f term_words a b part (term_from source names inner (tree_term_start start) at)
+module _ (source : List ℕ) (names : Names) (inner : ℕ → Got Expr) (at : ℕ) {f : Bases} {a : Emitted} {after : List ℕ} {start : TermStart} where
+  pub begins_cell : {c : CellStart} {r : Answer} → start ≡ TermStart.Cell c → Compiles f (λ c _. cell_words LDA c) a after r (cell_from source names (tree_cell_start c) at)
+      → Compiles f term_words a after r (term_from source names inner (tree_term_start start) at)
   unfolding tree_term_start term_from
   begins_cell e h = rw e (as_tree Term.cell cell_term h refl)
 
-  pub begins_zero : start ≡ TermStart.Zero → b ≡ with_word a (get_or table_of CRA 0) → Compiles f term_words a b (Part.Read at) (term_from source names inner (tree_term_start start) at)
+  pub begins_zero : {o : Output} → start ≡ TermStart.Zero → emitted_by o after ≡ with_word a (get_or table_of CRA 0) → Compiles f term_words a after (Ok (record { value = o; next = at })) (term_from source names inner (tree_term_start start) at)
   unfolding tree_term_start term_from
   begins_zero e h = rw e (read refl refl (zero_term h))
 
-  pub begins_bracket : {part : Part} → start ≡ TermStart.Bracket → Compiles f expr_words a b part (parse_bracketed source names inner at)
-      → Compiles f term_words a b part (term_from source names inner (tree_term_start start) at)
+  pub begins_bracket : {r : Answer} → start ≡ TermStart.Bracket → Compiles f expr_words a after r (parse_bracketed source names inner at)
+      → Compiles f term_words a after r (term_from source names inner (tree_term_start start) at)
   unfolding tree_term_start term_from
   begins_bracket e h = rw e (as_tree Term.bracket bracket_term h refl)
 
-  pub begins_call : {p : ℕ} {part : Part} → start ≡ TermStart.Call p → Compiles f term_words a b part (parse_call source names inner (Term.call p) (Term.call_with p) at)
-      → Compiles f term_words a b part (term_from source names inner (tree_term_start start) at)
+  pub begins_call : {p : ℕ} {r : Answer} → start ≡ TermStart.Call p → Compiles f term_words a after r (parse_call source names inner (Term.call p) (Term.call_with p) at)
+      → Compiles f term_words a after r (term_from source names inner (tree_term_start start) at)
   unfolding tree_term_start term_from
   begins_call e h = rw e h
 
-pub begins_accumulator : (source : List ℕ) (names : Names) (inner : ℕ → Got Expr) (at : ℕ) {f : Bases} {a : Emitted} {start : TermStart} → start ≡ TermStart.Accumulator
-    → Compiles f term_words a a (Part.Read at) (term_from source names inner (tree_term_start start) at)
+pub begins_accumulator : (source : List ℕ) (names : Names) (inner : ℕ → Got Expr) (at : ℕ) {f : Bases} {o : Output} {image : List ℕ} {start : TermStart} → start ≡ TermStart.Accumulator
+    → Compiles f term_words (emitted_by o image) image (Ok (record { value = o; next = at })) (term_from source names inner (tree_term_start start) at)
 unfolding tree_term_start term_from
 begins_accumulator source names inner at e = rw e (read refl refl accumulator_term)
 
@@ -200,34 +223,8 @@ module _ (source : List ℕ) (names : Names) (left at : ℕ) where
   unfolding parse_expr
   too_deep e = rw e
 
-record Fails (g : Got Expr) : Type 0 where
-  number : ℕ
-  offset : ℕ
-  is : g ≡ failed number offset
-
-fails_at : (t : Token) (n : ℕ) → Fails (fail_at t n)
-unfolding fail_at
-fails_at t n = record { number = failure_at t n; offset = t.at; is = refl }
-
-after : (t : Token) (g : Got expressions.TermStart) → Fails (and_then g (λ _ _. fail_at t 9))
-unfolding and_then
-after t (got s n) = fails_at t 9
-after t (failed k a) = record { number = k; offset = a; is = refl }
-
-deep_fails : (source : List ℕ) (names : Names) (t : Token) → Fails (expressions.too_deep_expr source names t)
-unfolding expressions.too_deep_expr
-deep_fails source names t = go (eqb t.kind Kinds.IF) (find (eqb t.kind) unaries) (term_start source names t)
-  where
-    go : (b : Bool) (o : Option (ℕ × Unary)) (g : Got expressions.TermStart) → Fails (whether b (λ _. fail_at t 9) (λ _. given o (λ _. fail_at t 9) (λ _. and_then g (λ _ _. fail_at t 9))))
-    go true o g = fails_at t 9
-    go false (some r) g = fails_at t 9
-    go false none g = after t g
-
-pub deep_part : (source : List ℕ) (names : Names) (left at : ℕ) {f : Bases} {a : Emitted} {part : Part} → left ≡ 0 → part ≡ part_of (expressions.too_deep_expr source names (token_at source at))
-    → Compiles f expr_words a a part (parse_expr source names left at)
-unfolding part_of
-deep_part source names left at e q =
-    let d = deep_fails source names (token_at source at) in fails (too_deep source names left at e ∙ d.is) (q ∙ ap part_of d.is) kept_here
+pub deep_failed : (source : List ℕ) (names : Names) (left at : ℕ) {f : Bases} {a : Emitted} {e : Failure} → left ≡ 0 → Fails e (expressions.too_deep_expr source names (token_at source at)) → Compiles f expr_words a a.image (Err e) (parse_expr source names left at)
+deep_failed source names left at z h = fails (too_deep source names left at z ∙ h) refl here
 
 sub_one : (n : ℕ) → suc n - 1 ≡ n
 sub_one n = omega arith

@@ -14,7 +14,7 @@ use Rattle.emitter.specs.Emitted.{emitted_by}
 use Rattle.emitter.specs.Lays.{WordsAt, Lays, ForwardJump}
 use Rattle.emitter.proofs.Lays.{nothing, word, jump_later, same_forward}
 use Rattle.emitter.specs.declared.Output.{Output}
-use Rattle.expressions.specs.declared.JumpAnswer.{JumpAnswer}
+use Rattle.expressions.specs.declared.Guarded.{Guarded}
 use Rattle.expressions.specs.Compiles.{AlwaysForwardJump, PutsHole}
 use Rattle.emitter.proofs.EmittedWords.{generic_word, shift_word_lem, through_word, jump_word}
 
@@ -40,7 +40,7 @@ module _ (f : Bases) {a b : Emitted} where
   unfolding ◌⧺◌
   hole e = rw (e, ← jump_word f a 0) (same_forward (λ at z. refl) (jump_later {f = f} {a = a} {b = a} nothing))
 
-pub hole_later : {o : Output} {i j : List ℕ} {r : JumpAnswer} → PutsHole o i r j → AlwaysForwardJump (emitted_by o i) (emitted_by r.output j) (λ at z. Sym.jump z ∷ []) r.hole
+pub hole_later : {o : Output} {i j : List ℕ} {r : Guarded} → PutsHole o i r j → AlwaysForwardJump (emitted_by o i) (emitted_by r.output j) (λ at z. Sym.jump z ∷ []) r.hole
 hole_later h = record { forward = λ f. rw h.at (hole f h.puts.emitted) }
 
 -- the last word as a jump that is filled in later

@@ -1,5 +1,5 @@
 -- Operations, one after another.
-use Prim.Native.Nat.{ℕ, ◌-◌, ◌<◌}
+use Prim.Native.Nat.{ℕ}
 use mathlib.Core.Path.{◌≡◌, refl, sym, ap, ◌∙◌}
 use mathlib.Core.Bool.{Bool, true, false}
 use mathlib.Core.Logic.{◌⊎◌, inl, inr}
@@ -22,11 +22,15 @@ use Rattle.grammar.specs.Vocabulary.{operators, shifts}
 use Rattle.layout.specs.Words.{Sym, ◌⧺◌, Plain, operator_form, operator_opcode, shift_kind, operation_words, operations_words}
 use Rattle.grammar.specs.Cells.{parse_in_range, parse_cell}
 use Rattle.grammar.specs.Expressions.{operation_of, more_operations}
+use Rattle.std.specs.Prelude.{Option as Found, Some, None, Result}
 use Rattle.parser.specs.declared.Part.{Part}
+use Rattle.parser.specs.declared.Failure.{Failure}
+use Rattle.emitter.specs.declared.Output.{Output}
+use Rattle.emitter.specs.Emitted.{emitted_by}
 use Rattle.layout.specs.Emission.{Emitted, Bases}
 use Rattle.emitter.specs.Lays.{Lays}
-use Rattle.emitter.proofs.Lays.{append_assoc, append_none, kept_then, sequence, same}
-use Rattle.expressions.specs.Vocabulary.{number_in, before_by, after_by}
+use Rattle.emitter.proofs.Lays.{append_assoc, append_none, kept_image, sequence, same}
+use Rattle.expressions.specs.Vocabulary.{looked_up, before_by, after_by}
 use Rattle.expressions.specs.Chains.{operation_at, operator_words}
 use Rattle.expressions.specs.Compiles.{Compiles, Turned}
 use Rattle.expressions.proofs.VocabularyLaws.{as_row, as_some, as_none}
@@ -82,42 +86,43 @@ module _ (kind : ℕ) where
 
 -- ---- One operation
 
-module _ (source : List ℕ) (names : Names) (t : Token) {f : Bases} {a b : Emitted} {part : Part} where
-  pub binary_turn : (n : ℕ) → n ≡ number_in operators operator_opcode t.kind → 0 < n
-      → Compiles f (λ c _. operator_words t.kind (n - 1) c) a b part (parse_cell source names t.next) → Turned f a b true part (operation_at source names t)
-  unfolding operation_at operation_words operator_words
-  binary_turn n e h p =
-      let r = as_row operators operator_opcode t.kind n e h in
-      let opcode : n - 1 ≡ operator_opcode r.row.1 = let i = r.is in omega (arith, i) in
-      Turned.one (as_some operators operator_opcode t _ _ r) refl
-      (as_tree (Operation.binary r.row.1) (λ c at. rw (opcode, before_found t.kind r.found, after_found t.kind r.found)) p refl)
+-- an operator's words, by its row
+operator_is : (kind n : ℕ) (o : Operator) (c : Cell) → n ≡ operator_opcode o → before_by kind ≡ (operator_form o).before → after_by kind ≡ (operator_form o).after → operator_words kind n c ≡ operation_words (Operation.binary o c)
+unfolding operator_words operation_words
+operator_is kind n o c e b a = rw (e, b, a)
 
-  pub shift_turn : (n : ℕ) → 0 ≡ number_in operators operator_opcode t.kind → n ≡ number_in shifts shift_kind t.kind → 0 < n
-      → Compiles f (λ m _. Sym.shift (n - 1) m ∷ []) a b part (parse_in_range source names (between 1 15) t.next) → Turned f a b true part (operation_at source names t)
-  unfolding operation_at operation_words
-  shift_turn n z e h p =
-      let r = as_row shifts shift_kind t.kind n e h in
-      let kind : n - 1 ≡ shift_kind r.row.1 = let i = r.is in omega (arith, i) in
-      Turned.one (as_none operators operator_opcode t _ _ z ∙ as_some shifts shift_kind t _ _ r) refl (as_tree (Operation.shift r.row.1) (λ m at. ap (λ x. Sym.shift x m ∷ []) kind) p refl)
-
-module _ (source : List ℕ) (names : Names) (t : Token) {f : Bases} {a : Emitted} {part : Part} where
-  pub no_turn : 0 ≡ number_in operators operator_opcode t.kind → 0 ≡ number_in shifts shift_kind t.kind → Turned f a a false part (operation_at source names t)
+module _ (source : List ℕ) (names : Names) (t : Token) {o : Found ℕ} (e : o ≡ looked_up operators operator_opcode t.kind) {f : Bases} {output : Output} {before : List ℕ} where
+  pub binary_turn : {after : List ℕ} {r : Result (Part Output) Failure} {n : ℕ} → o ≡ Some n → Compiles f (λ c _. operator_words t.kind n c) (emitted_by output before) after r (parse_cell source names t.next) → Turned f output before after (Some r) (operation_at source names t)
   unfolding operation_at
-  no_turn z e = Turned.last (as_none operators operator_opcode t _ _ z ∙ as_none shifts shift_kind t _ _ e) refl refl
+  binary_turn {n = n} h p =
+      let row = as_row operators operator_opcode t.kind e h in
+      Turned.one (as_some operators operator_opcode t _ _ row) refl
+      (as_tree (Operation.binary row.row.1) (λ c at. operator_is t.kind n row.row.1 c row.is (before_found t.kind row.found) (after_found t.kind row.found)) p refl)
+
+  module _ (no : o ≡ None) {s : Found ℕ} (i : s ≡ looked_up shifts shift_kind t.kind) where
+    pub shift_turn : {after : List ℕ} {r : Result (Part Output) Failure} {n : ℕ} → s ≡ Some n → Compiles f (λ m _. Sym.shift n m ∷ []) (emitted_by output before) after r (parse_in_range source names (between 1 15) t.next) → Turned f output before after (Some r) (operation_at source names t)
+    unfolding operation_at operation_words
+    shift_turn h p =
+        let row = as_row shifts shift_kind t.kind i h in
+        Turned.one (as_none operators operator_opcode t _ _ e no ∙ as_some shifts shift_kind t _ _ row) refl (as_tree (Operation.shift row.row.1) (λ m at. ap (λ x. Sym.shift x m ∷ []) row.is) p refl)
+
+    pub no_turn : s ≡ None → Turned f output before before None (operation_at source names t)
+    unfolding operation_at
+    no_turn h = Turned.last (as_none operators operator_opcode t _ _ e no ∙ as_none shifts shift_kind t _ _ i h) refl refl
 
 -- what a turn's answer says
-pub record Turning (f : Bases) (a b : Emitted) (part : Part) (g : Option (Got Operation)) : Type 0 where
+pub record Turning (f : Bases) (output : Output) (before after : List ℕ) (r : Result (Part Output) Failure) (g : Option (Got Operation)) : Type 0 where
   pub operation : Got Operation
   pub is : g ≡ some operation
-  pub compiles : Compiles f (λ o _. operation_words o) a b part operation
+  pub compiles : Compiles f (λ o _. operation_words o) (emitted_by output before) after r operation
 
-module _ {f : Bases} {a b : Emitted} {part : Part} {g : Option (Got Operation)} where
-  pub turn_last : {m : Bool} → Turned f a b m part g → m ≡ false → (g ≡ none) × (b ≡ a)
+module _ {f : Bases} {output : Output} {before after : List ℕ} {r : Found (Result (Part Output) Failure)} {g : Option (Got Operation)} where
+  pub turn_last : Turned f output before after r g → r ≡ None → (g ≡ none) × (after ≡ before)
   turn_last (Turned.one i p h) e = absurd (let z : ◌≡◌ {A = ℕ} 0 1 = cc in omega arith)
   turn_last (Turned.last i p h) e = (i, h)
 
-  pub turn_one : {m : Bool} → Turned f a b m part g → m ≡ true → Turning f a b part g
-  turn_one (Turned.one {o} i p h) e = record { operation = o; is = i; compiles = h }
+  pub turn_one : {x : Result (Part Output) Failure} → Turned f output before after r g → r ≡ Some x → Turning f output before after x g
+  turn_one {x} (Turned.one {o} {answer} i p h) e = let q : answer ≡ x = cc in record { operation = o; is = i; compiles = rw (← q) h }
   turn_one (Turned.last i p h) e = absurd (let z : ◌≡◌ {A = ℕ} 0 1 = cc in omega arith)
 
 -- ---- Any operations
@@ -158,7 +163,7 @@ operations_snoc [] o = sym (append_none (operation_words o))
 operations_snoc (p ∷ os) o = append_assoc (operation_words p) (operations_words os) (operation_words o) ∙ ap (λ r. operation_words p ⧺ r) (operations_snoc os o)
 
 -- one operation after others
-pub after_others : (source : List ℕ) (names : Names) {f : Bases} {a b c : Emitted} {part : Part} {g : Got Operation} (os : List Operation) → Lays f a b (λ _. operations_words os)
-    → Compiles f (λ o _. operation_words o) b c part g → Compiles f (λ os _. operations_words os) a c part (added source names os g)
+pub after_others : (source : List ℕ) (names : Names) {f : Bases} {a : Emitted} (o : Output) {before after : List ℕ} {r : Result (Part Output) Failure} {g : Got Operation} (os : List Operation) → Lays f a (emitted_by o before) (λ _. operations_words os)
+    → Compiles f (λ o _. operation_words o) (emitted_by o before) after r g → Compiles f (λ os _. operations_words os) a after r (added source names os g)
 unfolding added
-after_others source names os p r = reads_as (snoc os) r refl refl (λ o q. same (λ at. operations_snoc os o) (sequence p q)) (kept_then p.kept)
+after_others source names o os p h = reads_as (snoc os) h refl (λ o x q. same (λ at. operations_snoc os o) (sequence p q)) (kept_image p.kept)

@@ -25,7 +25,8 @@ use Rattle.grammar.specs.Expressions.{more_unaries, parse_unaries}
 use Rattle.layout.specs.Map.{word_of}
 use Rattle.layout.specs.Emission.{Emitted, last_address, with_word, with_literals, Bases, emit_word, emit_all}
 use Rattle.emitter.proofs.Lays.{append_length, emit_append, next_below, kept_upto, kept_sets}
-use Rattle.expressions.specs.Vocabulary.{number_in, last_slot}
+use Rattle.std.specs.Prelude.{Option as Found, Some, None}
+use Rattle.expressions.specs.Vocabulary.{looked_up, last_slot}
 use Rattle.expressions.specs.Chains.{unaries_by, unaries_of, unaries_next}
 use Rattle.expressions.specs.Compiles.{Always}
 use Rattle.expressions.specs.Unaries.{values, width_of, unary_values}
@@ -35,11 +36,11 @@ use Rattle.expressions.proofs.VocabularyLaws.{Row, as_row, as_some, as_none}
 
 module _ (source : List ℕ) where
   -- where a token is none, they end
-  no_more : (k i : ℕ) → 0 ≡ number_in unaries last_slot (token_at source i).kind → unaries_by source k i ≡ ([], i)
+  no_more : {r : Found ℕ} (k i : ℕ) → r ≡ looked_up unaries last_slot (token_at source i).kind → r ≡ None → unaries_by source k i ≡ ([], i)
   unfolding unaries_by
-  no_more zero i e = refl
-  no_more (suc k) i e =
-      as_none unaries last_slot (token_at source i) (λ u. let rest = unaries_by source k (token_at source i).next in (u ∷ rest.0, rest.1)) (λ _. ([], i)) e
+  no_more zero i e h = refl
+  no_more (suc k) i e h =
+      as_none unaries last_slot (token_at source i) (λ u. let rest = unaries_by source k (token_at source i).next in (u ∷ rest.0, rest.1)) (λ _. ([], i)) e h
 
   one_more : {n : ℕ} (k i : ℕ) (r : Row unaries last_slot (token_at source i).kind n)
       → unaries_by source (suc k) i ≡ (r.row.1 ∷ (unaries_by source k (token_at source i).next).0, (unaries_by source k (token_at source i).next).1)
@@ -215,7 +216,7 @@ none_stored source k i place l e = ap (λ x. sets l (place - length (unaries_wor
 -- a turn reads one word
 pub record Turn (source : List ℕ) (t : Token) (n k i : ℕ) : Type 0 where
   pub unary : Unary
-  pub slot : n - 1 ≡ last_slot unary
+  pub slot : n ≡ last_slot unary
   pub is : Instructions t.kind unary
   pub next : (unaries_by source k i).1 ≡ (unaries_by source (k - 1) t.next).1
   pub come : to_come source k i ≡ to_come source (k - 1) t.next ⧺ unary_words unary
@@ -227,20 +228,19 @@ module _ (source : List ℕ) where
   runs_out zero i h = refl
   runs_out (suc k) i h = absurd (omega (arith, h))
 
-  module _ {t : Token} {n : ℕ} (k i : ℕ) (at : t ≡ token_at source i) (number : n ≡ number_in unaries last_slot t.kind) where
-    pub stops : n ≡ 0 → unaries_by source k i ≡ ([], i)
-    stops e = no_more source k i (sym e ∙ number ∙ ap (λ x. number_in unaries last_slot x.kind) at)
+  module _ {t : Token} {r : Found ℕ} (k i : ℕ) (at : t ≡ token_at source i) (number : r ≡ looked_up unaries last_slot t.kind) where
+    pub stops : r ≡ None → unaries_by source k i ≡ ([], i)
+    stops e = no_more source k i (number ∙ ap (λ x. looked_up unaries last_slot x.kind) at) e
 
-    pub turns : 0 < k → (n ≡ 0 → ⊥) → Turn source t n k i
+    pub turns : {n : ℕ} → 0 < k → r ≡ Some n → Turn source t n k i
     unfolding unaries_words
-    turns h e = rw at (
-        let r = as_row unaries last_slot (token_at source i).kind n (number ∙ ap (λ x. number_in unaries last_slot x.kind) at) (omega (arith, e)) in
+    turns {n} h e = rw at (
+        let r = as_row unaries last_slot (token_at source i).kind (number ∙ ap (λ x. looked_up unaries last_slot x.kind) at) e in
         let l : k ≡ suc (k - 1) = omega (arith, h) in
         let m = ap (λ x. unaries_by source x i) l ∙ one_more source (k - 1) i r in
-        let s = r.is in
         record {
           unary = r.row.1;
-          slot = omega (arith, s);
+          slot = r.is;
           is = instructions r;
           next = ap (λ x. x.1) m;
           come = ap (λ x. unaries_words x.0) m;
@@ -265,7 +265,7 @@ module _ {source : List ℕ} {t : Token} {n k i : ℕ} (turn : Turn source t n k
   pub still_room : {place : ℕ} → length (to_come source k i) ≤ place → length (to_come source (k - 1) t.next) ≤ place - w
   still_room h = let s = size in omega (arith, s, h)
 
-  pub places : (l : List ℕ) {place : ℕ} {image : List ℕ} → length (to_come source k i) ≤ place → image ≡ sets l (place - w) (unary_values t.kind (n - 1))
+  pub places : (l : List ℕ) {place : ℕ} {image : List ℕ} → length (to_come source k i) ≤ place → image ≡ sets l (place - w) (unary_values t.kind n)
       → sets image (place - w - length (to_come source (k - 1) t.next)) (values (to_come source (k - 1) t.next)) ≡ sets l (place - length (to_come source k i)) (values (to_come source k i))
   places l {place} {image} h q =
       rw (q, turn.slot, turn.is.words, turn.come)

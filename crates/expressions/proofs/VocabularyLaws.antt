@@ -1,151 +1,143 @@
--- Looking a token's kind up: what the number that is found says of the definitions' tables.
-use Prim.Native.Nat.{ℕ, suc, ◌<◌, ◌≤◌}
+-- Looking a token's kind up: what the answer says of the definitions' tables.
+use Prim.Native.Nat.{ℕ, zero, suc, ◌+◌, ◌-◌, ◌<◌, ◌≤◌}
 use mathlib.Core.Path.{◌≡◌, refl, sym, ap, ◌∙◌}
-use mathlib.Core.Bool.{Bool, true, false, ◌&&◌}
-use mathlib.Core.List.{List, [], ◌∷◌}
-use mathlib.Core.Option.{Option, none, some}
+use mathlib.Core.Bool.{Bool, true, false}
+use mathlib.Core.List.{List}
+use mathlib.Core.Option.{Option as Found, none, some}
 use native.Mathlib.Omega.{arith}
-use borrow.Author.Tests.{eqb-true, eq-eqb, ne_eqb, ltb-true, ltb-false, lt-ltb, le-ltb}
-use lib.Dec.{T, eqb, ltb}
-use Rattle.prelude.specs.Choice.{whether, find, given}
+use borrow.Author.Tests.{ne_eqb}
+use lib.Dec.{eqb}
+use Rattle.std.specs.Prelude.{Option, Some, None}
+use Rattle.prelude.specs.Choice.{find, given}
 use Rattle.source.specs.Kinds
 use Rattle.source.specs.declared.Token.{Token}
-use Rattle.source.proofs.Tests.{all_below, below, and_left, and_right}
-use Rattle.grammar.specs.Vocabulary.{unaries, shifts, relations, tests, bares, as_one_of}
-use Rattle.layout.specs.Words.{shift_kind, test_slot, bare_slot}
-use Rattle.expressions.specs.Vocabulary.{number_in, last_slot, ranged}
+use Rattle.grammar.specs.Vocabulary.{unaries, operators, shifts, relations, tests, bares, as_one_of}
+use Rattle.layout.specs.Words.{operator_opcode, shift_kind, test_slot, bare_slot}
+use Rattle.expressions.specs.Vocabulary.{looked_up, stands_in, last_slot}
 
--- ---- What a number says
+-- ---- What an answer says
+
+no_some : {A : Type 0} {x : A} → None ≡ Some x → ⊥
+no_some e = let z : ◌≡◌ {A = ℕ} 0 1 = cc in omega (arith, z)
 
 module _ {A : Type 0} (table : List (ℕ × A)) (number : A → ℕ) where
   -- the row that was found
   pub record Row (kind n : ℕ) : Type 0 where
     pub row : ℕ × A
-    pub is : n ≡ suc (number row.1)
+    pub is : n ≡ number row.1
     pub found : find (eqb kind) table ≡ some row
 
-  pub as_row : (kind n : ℕ) → n ≡ number_in table number kind → 0 < n → Row kind n
-  unfolding number_in
-  as_row kind n e h = go (find (eqb kind) table) refl e
+  pub as_row : (kind : ℕ) {n : ℕ} {r : Option ℕ} → r ≡ looked_up table number kind → r ≡ Some n → Row kind n
+  unfolding looked_up
+  as_row kind {n} e h = go (find (eqb kind) table) refl (sym h ∙ e)
     where
-      go : (o : Option (ℕ × A)) → find (eqb kind) table ≡ o → n ≡ given o (λ row. suc (number row.1)) (λ _. 0) → Row kind n
-      go none q k = absurd (omega (arith, h, k))
-      go (some r) q k = record { row = r; is = k; found = q }
+      go : (o : Found (ℕ × A)) → find (eqb kind) table ≡ o → Some n ≡ given o (λ row. Some (number row.1)) (λ _. None) → Row kind n
+      go none q k = absurd (no_some (sym k))
+      go (some r) q k = record { row = r; is = cc; found = q }
 
   pub as_some : {B : Type 0} {n : ℕ} (t : Token) (f : A → B) (g : Unit {0} → B) (r : Row t.kind n) → as_one_of table t f g ≡ f r.row.1
   as_some t f g r = ap (λ o. given o (λ row. f row.1) g) r.found
 
-  pub as_none : {B : Type 0} (t : Token) (f : A → B) (g : Unit {0} → B) → 0 ≡ number_in table number t.kind → as_one_of table t f g ≡ g tt
-  unfolding number_in
-  as_none {B} t f g e = go (find (eqb t.kind) table) e
+  pub as_none : {B : Type 0} (t : Token) (f : A → B) (g : Unit {0} → B) {r : Option ℕ} → r ≡ looked_up table number t.kind → r ≡ None → as_one_of table t f g ≡ g tt
+  unfolding looked_up
+  as_none {B} t f g e h = go (find (eqb t.kind) table) (sym h ∙ e)
     where
-      go : (o : Option (ℕ × A)) → 0 ≡ given o (λ row. suc (number row.1)) (λ _. 0) → given o (λ row. f row.1) g ≡ g tt
+      go : (o : Found (ℕ × A)) → None ≡ given o (λ row. Some (number row.1)) (λ _. None) → given o (λ row. f row.1) g ≡ g tt
       go none k = refl
-      go (some r) k = absurd (omega (arith, k))
+      go (some r) k = absurd (no_some k)
 
--- ---- Tables by computation
+module _ {A : Type 0} (table : List (ℕ × A)) where
+  -- the row of a kind that stands in the table
+  pub record Standing (kind : ℕ) : Type 0 where
+    pub row : ℕ × A
+    pub found : find (eqb kind) table ≡ some row
 
-keys_below : {A : Type 0} → ℕ → List (ℕ × A) → Bool
-keys_below n [] = true
-keys_below n (r ∷ rs) = ltb r.0 n && keys_below n rs
+  pub standing : (kind : ℕ) {b : Bool} → b ≡ stands_in table kind → b ≡ true → Standing kind
+  unfolding stands_in
+  standing kind e h = go (find (eqb kind) table) refl (sym h ∙ e)
+    where
+      go : (o : Found (ℕ × A)) → find (eqb kind) table ≡ o → true ≡ given o (λ _. true) (λ _. false) → Standing kind
+      go none q k = absurd (let z : ◌≡◌ {A = ℕ} 0 1 = cc in omega (arith, z))
+      go (some r) q k = record { row = r; found = q }
 
-pub holds : (b : Bool) → T b → b ≡ true
-holds true t = refl
-holds false t = absurd t
+  pub as_standing : {B : Type 0} (t : Token) (f : A → B) (g : Unit {0} → B) (r : Standing t.kind) → as_one_of table t f g ≡ f r.row.1
+  as_standing t f g r = ap (λ o. given o (λ row. f row.1) g) r.found
 
--- past the kinds there is none
-none_past : {A : Type 0} (n kind : ℕ) (table : List (ℕ × A)) → T (keys_below n table) → n ≤ kind → find (eqb kind) table ≡ none
-unfolding keys_below find
-none_past n kind [] h l = refl
-none_past n kind (r ∷ rs) h l =
-    go (eqb kind r.0) refl (holds (ltb r.0 n) (and_left (ltb r.0 n) (keys_below n rs) h)) (none_past n kind rs (and_right (ltb r.0 n) (keys_below n rs) h) l)
-  where
-    go : (b : Bool) → eqb kind r.0 ≡ b → ltb r.0 n ≡ true → find (eqb kind) rs ≡ none → whether b (λ _. some r) (λ _. find (eqb kind) rs) ≡ none
-    go true e k rest = let q = eqb-true kind r.0 e in let p = ltb-true r.0 n k in absurd (omega (arith, q, p, l))
-    go false e k rest = rest
+  pub not_standing : {B : Type 0} (t : Token) (f : A → B) (g : Unit {0} → B) {b : Bool} → b ≡ stands_in table t.kind → b ≡ false → as_one_of table t f g ≡ g tt
+  unfolding stands_in
+  not_standing {B} t f g e h = go (find (eqb t.kind) table) (sym h ∙ e)
+    where
+      go : (o : Found (ℕ × A)) → false ≡ given o (λ _. true) (λ _. false) → given o (λ row. f row.1) g ≡ g tt
+      go none k = refl
+      go (some r) k = absurd (let z : ◌≡◌ {A = ℕ} 0 1 = cc in omega (arith, z))
 
--- a number that agrees with the table's at each kind, and is 0 past them
-agrees : {A : Type 0} (table : List (ℕ × A)) (number : A → ℕ) (code : ℕ → ℕ) → T (keys_below 74 table)
-    → T (all_below (λ k. eqb (code k) (number_in table number k)) 74) → ((k : ℕ) → 74 ≤ k → code k ≡ 0) → (k : ℕ) → code k ≡ number_in table number k
-unfolding number_in
-agrees table number code h t past k = go (ltb k 74) refl
-  where
-    go : (b : Bool) → ltb k 74 ≡ b → code k ≡ number_in table number k
-    go true e = eqb-true (code k) (number_in table number k) (holds _ (below (λ k. eqb (code k) (number_in table number k)) 74 t k (ltb-true k 74 e)))
-    go false e =
-        past k (ltb-false k 74 e) ∙ sym (ap (λ o. given o (λ row. suc (number row.1)) (λ _. 0)) (none_past 74 k table h (ltb-false k 74 e)))
+-- ---- The code's tables
 
-either_way : (b : Bool) (n : ℕ) → whether b (λ _. n) (λ _. n) ≡ n
-either_way true n = refl
-either_way false n = refl
+module _ (kind : ℕ) where
+  -- at no row's
+  pub no_unary :
+      (kind ≡ Kinds.ADDC → ⊥) → (kind ≡ Kinds.INC → ⊥) → (kind ≡ Kinds.NEG → ⊥) → (kind ≡ Kinds.SSP → ⊥) → (kind ≡ Kinds.SSM → ⊥) → (kind ≡ Kinds.CHS → ⊥) → (kind ≡ Kinds.CSA → ⊥)
+      → (kind ≡ Kinds.NOT → ⊥) → (kind ≡ Kinds.ICLEFT → ⊥) → (kind ≡ Kinds.CLEFT → ⊥) → (kind ≡ Kinds.SWOP → ⊥) → (kind ≡ Kinds.ICRIGHT → ⊥) → (kind ≡ Kinds.CRIGHT → ⊥) → (kind ≡ Kinds.ABS → ⊥)
+      → None ≡ looked_up unaries last_slot kind
+  unfolding looked_up find
+  no_unary a b c d e f g h i j k l m n =
+      simp (ne_eqb _ _ a, ne_eqb _ _ b, ne_eqb _ _ c, ne_eqb _ _ d, ne_eqb _ _ e, ne_eqb _ _ f, ne_eqb _ _ g, ne_eqb _ _ h, ne_eqb _ _ i, ne_eqb _ _ j, ne_eqb _ _ k, ne_eqb _ _ l, ne_eqb _ _ m, ne_eqb _ _ n)
 
-ranged_past : (low high k : ℕ) → high < 74 → 74 ≤ k → ranged low high k ≡ 0
-unfolding ranged
-ranged_past low high k h l = rw (lt-ltb high k (omega (arith, h, l))) (either_way (ltb k low) 0)
+  pub no_shift_word : (kind ≡ Kinds.LGR → ⊥) → (kind ≡ Kinds.ARS → ⊥) → (kind ≡ Kinds.ARR → ⊥) → (kind ≡ Kinds.LGL → ⊥) → (kind ≡ Kinds.ALS → ⊥) → (kind ≡ Kinds.ALR → ⊥) → None ≡ looked_up shifts shift_kind kind
+  unfolding looked_up find
+  no_shift_word a b c d e f = simp (ne_eqb _ _ a, ne_eqb _ _ b, ne_eqb _ _ c, ne_eqb _ _ d, ne_eqb _ _ e, ne_eqb _ _ f)
 
-pub unary_number : (k : ℕ) → ranged Kinds.ADDC Kinds.ABS k ≡ number_in unaries last_slot k
-unfolding number_in ranged last_slot keys_below find
-unary_number k = agrees unaries last_slot (ranged Kinds.ADDC Kinds.ABS) tt tt (λ k h. ranged_past Kinds.ADDC Kinds.ABS k (omega arith) h) k
+  pub no_bare :
+      (kind ≡ Kinds.CSET → ⊥) → (kind ≡ Kinds.NOTC → ⊥) → (kind ≡ Kinds.SENSE1 → ⊥) → (kind ≡ Kinds.SENSE2 → ⊥) → (kind ≡ Kinds.SENSE3 → ⊥) → (kind ≡ Kinds.SENSE4 → ⊥) → (kind ≡ Kinds.ANYKEY → ⊥) → (kind ≡ Kinds.NOKEY → ⊥)
+      → None ≡ looked_up bares bare_slot kind
+  unfolding looked_up find
+  no_bare a b c d e f g h = simp (ne_eqb _ _ a, ne_eqb _ _ b, ne_eqb _ _ c, ne_eqb _ _ d, ne_eqb _ _ e, ne_eqb _ _ f, ne_eqb _ _ g, ne_eqb _ _ h)
 
-pub shift_number : (k : ℕ) → ranged Kinds.LGR Kinds.ALR k ≡ number_in shifts shift_kind k
-unfolding number_in ranged shift_kind keys_below find
-shift_number k = agrees shifts shift_kind (ranged Kinds.LGR Kinds.ALR) tt tt (λ k h. ranged_past Kinds.LGR Kinds.ALR k (omega arith) h) k
+  pub no_test : (kind ≡ Kinds.ZERO → ⊥) → (kind ≡ Kinds.NONZERO → ⊥) → (kind ≡ Kinds.PLUS → ⊥) → (kind ≡ Kinds.MINUS → ⊥) → (kind ≡ Kinds.ODD → ⊥) → (kind ≡ Kinds.EVEN → ⊥) → None ≡ looked_up tests test_slot kind
+  unfolding looked_up find
+  no_test a b c d e f = simp (ne_eqb _ _ a, ne_eqb _ _ b, ne_eqb _ _ c, ne_eqb _ _ d, ne_eqb _ _ e, ne_eqb _ _ f)
 
-pub bare_number : (k : ℕ) → ranged Kinds.CSET Kinds.NOKEY k ≡ number_in bares bare_slot k
-unfolding number_in ranged bare_slot keys_below find
-bare_number k = agrees bares bare_slot (ranged Kinds.CSET Kinds.NOKEY) tt tt (λ k h. ranged_past Kinds.CSET Kinds.NOKEY k (omega arith) h) k
+  pub no_operator :
+      (kind ≡ Kinds.plus → ⊥) → (kind ≡ Kinds.minus → ⊥) → (kind ≡ Kinds.AND → ⊥) → (kind ≡ Kinds.NEV → ⊥) → (kind ≡ Kinds.star → ⊥) → (kind ≡ Kinds.slash → ⊥) → (kind ≡ Kinds.MOD → ⊥)
+      → None ≡ looked_up operators operator_opcode kind
+  unfolding looked_up find
+  no_operator a b c d e f g = simp (ne_eqb _ _ a, ne_eqb _ _ b, ne_eqb _ _ c, ne_eqb _ _ d, ne_eqb _ _ e, ne_eqb _ _ f, ne_eqb _ _ g)
 
--- `.ZERO` stands apart from the other tests
-test_code : ℕ → ℕ
-test_code k = whether (eqb k Kinds.ZERO) (λ _. ranged Kinds.ZERO Kinds.ZERO k) (λ _. ranged Kinds.NONZERO Kinds.EVEN k)
+  -- the relations are six consecutive kinds
+  pub is_relation_lem : Kinds.equal ≤ kind → kind ≤ Kinds.at_least → true ≡ stands_in relations kind
+  unfolding stands_in find
+  is_relation_lem h l = go (kind - Kinds.equal) (omega (arith, h))
+    where
+      six : {k : ℕ} → kind ≡ k → true ≡ stands_in relations k → true ≡ stands_in relations kind
+      six e q = rw e q
 
-test_past : (k : ℕ) → 74 ≤ k → test_code k ≡ 0
-unfolding test_code
-test_past k h =
-    rw (ne_eqb k Kinds.ZERO (λ e. omega (arith, e, h))) (ranged_past Kinds.NONZERO Kinds.EVEN k (omega arith) h)
+      go : (d : ℕ) → kind ≡ d + Kinds.equal → true ≡ stands_in relations kind
+      go zero e = six {k = 7} (omega (arith, e)) refl
+      go (suc zero) e = six {k = 8} (omega (arith, e)) refl
+      go (suc (suc zero)) e = six {k = 9} (omega (arith, e)) refl
+      go (suc (suc (suc zero))) e = six {k = 10} (omega (arith, e)) refl
+      go (suc (suc (suc (suc zero)))) e = six {k = 11} (omega (arith, e)) refl
+      go (suc (suc (suc (suc (suc zero))))) e = six {k = 12} (omega (arith, e)) refl
+      go (suc (suc (suc (suc (suc (suc d)))))) e = absurd (omega (arith, e, l))
 
-test_code_lem : (k : ℕ) → test_code k ≡ number_in tests test_slot k
-unfolding number_in ranged test_slot keys_below find test_code
-test_code_lem k = agrees tests test_slot test_code tt tt test_past k
+  pub no_relation_below : kind < Kinds.equal → false ≡ stands_in relations kind
+  unfolding stands_in find
+  no_relation_below h =
+      rw (ne_eqb kind Kinds.equal (λ e. omega (arith, e, h)), ne_eqb kind Kinds.not_equal (λ e. omega (arith, e, h)), ne_eqb kind Kinds.less (λ e. omega (arith, e, h)), ne_eqb kind Kinds.greater (λ e. omega (arith, e, h)), ne_eqb kind Kinds.at_most (λ e. omega (arith, e, h)), ne_eqb kind Kinds.at_least (λ e. omega (arith, e, h))) refl
 
-pub test_zero : (k : ℕ) → k ≡ Kinds.ZERO → ranged Kinds.ZERO Kinds.ZERO k ≡ number_in tests test_slot k
-unfolding test_code
-test_zero k e = rw (← test_code_lem k, eq-eqb k Kinds.ZERO e)
+  pub no_relation_above : Kinds.at_least < kind → false ≡ stands_in relations kind
+  unfolding stands_in find
+  no_relation_above h =
+      rw (ne_eqb kind Kinds.equal (λ e. omega (arith, e, h)), ne_eqb kind Kinds.not_equal (λ e. omega (arith, e, h)), ne_eqb kind Kinds.less (λ e. omega (arith, e, h)), ne_eqb kind Kinds.greater (λ e. omega (arith, e, h)), ne_eqb kind Kinds.at_most (λ e. omega (arith, e, h)), ne_eqb kind Kinds.at_least (λ e. omega (arith, e, h))) refl
 
-pub test_other : (k : ℕ) → (k ≡ Kinds.ZERO → ⊥) → ranged Kinds.NONZERO Kinds.EVEN k ≡ number_in tests test_slot k
-unfolding test_code
-test_other k e = rw (← test_code_lem k, ne_eqb k Kinds.ZERO e)
+pub ruleset for_unary = (no_unary)
 
--- the relations are six consecutive kinds
-relation_code : ℕ → ℕ
-relation_code k = whether (ltb k Kinds.equal) (λ _. 0) (λ _. whether (ltb Kinds.at_least k) (λ _. 0) (λ _. 1))
+pub ruleset for_shift_word = (no_shift_word)
 
-relation_past : (k : ℕ) → 74 ≤ k → relation_code k ≡ 0
-unfolding relation_code
-relation_past k h = rw (lt-ltb Kinds.at_least k (omega (arith, h))) (either_way (ltb k Kinds.equal) 0)
+pub ruleset for_bare = (no_bare)
 
-relation_code_lem : (k : ℕ) → relation_code k ≡ number_in relations (λ _. 0) k
-unfolding number_in keys_below find relation_code
-relation_code_lem k = agrees relations (λ _. 0) relation_code tt tt relation_past k
+pub ruleset for_test = (no_test)
 
-pub relation_low : (k : ℕ) → k < Kinds.equal → 0 ≡ number_in relations (λ _. 0) k
-unfolding relation_code
-relation_low k h = rw (← relation_code_lem k, lt-ltb k Kinds.equal h)
+pub ruleset for_operator = (no_operator)
 
-pub relation_high : (k : ℕ) → Kinds.equal ≤ k → Kinds.at_least < k → 0 ≡ number_in relations (λ _. 0) k
-unfolding relation_code
-relation_high k h l = rw (← relation_code_lem k, le-ltb k Kinds.equal h, lt-ltb Kinds.at_least k l)
-
-pub relation_in : (k : ℕ) → Kinds.equal ≤ k → k ≤ Kinds.at_least → 1 ≡ number_in relations (λ _. 0) k
-unfolding relation_code
-relation_in k h l = rw (← relation_code_lem k, le-ltb k Kinds.equal h, le-ltb Kinds.at_least k l)
-
-pub ruleset for_bare = (bare_number)
-
-pub ruleset for_relation = (relation_low, relation_high, relation_in)
-
-pub ruleset for_shift_word = (shift_number)
-
-pub ruleset for_test = (test_zero, test_other)
-
-pub ruleset for_unary = (unary_number)
+pub ruleset for_is_relation = (is_relation_lem, no_relation_below, no_relation_above)

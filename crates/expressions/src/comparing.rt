@@ -2,75 +2,48 @@
 ghost use Rattle.expressions.specs.Chains.{comparison_words};
 ghost use Rattle.expressions.specs.Compiles.{Decides, DecidesComparison, comparison_at, lone_cell_at};
 
-use crate::{ConditionAnswer, emit_read, relation, vocabulary};
-use cells::cell::lone_cell_at;
-use emitter::{Context, Output};
+use crate::{Body, Guarded, relation, vocabulary};
+use emitter::Output;
 use instruction::opcode;
-use parser::{Part, fail_at, failures};
+use parser::{Cause, Part, Read, fail_at};
 use source::{Token, token_at};
 
-// A relation's cell and the relation's words, after the relation.
-fn related(
-    source: &[u8],
-    table: &[u16],
-    image: &mut [u16],
-    context: Context,
-    t: Token,
-    output: Output,
-) -> ConditionAnswer
-    ensures { DecidesComparison t.kind context output image.old image.new result
-        (lone_cell_at source.now context table.now t.next) }
-{
-    let read = lone_cell_at(source, table, context.names, t.next);
-    let compared = emit_read(image, context, opcode::CAS, read, output);
-    let part = compared.part;
-    let after_cell = compared.output;
-    let Part::Read { next: _ } = part else {
-        return ConditionAnswer {
-            part,
-            output: after_cell,
-            hole: 0,
+impl Body<'_> {
+    // A relation's cell and the relation's words, after the relation.
+    fn related(&self, image: &mut [u16], output: Output, t: Token) -> Read<Guarded>
+        ensures { DecidesComparison t.kind self.now output image.old image.new result (lone_cell_at self.now t.next) }
+    {
+        let read = self.reader.lone_cell_at(t.next);
+        let compared = self.emit_read(image, output, opcode::CAS, read);
+        let Ok(
+            Part {
+                value: after_cell,
+                next,
+            },
+        ) = compared
+        else {
+            return Err(compared.unwrap_err());
         };
-    };
-    let last = relation::emit_relation(image, after_cell, t.kind);
-    let after_relation = last.output;
-    ConditionAnswer {
-        part,
-        output: after_relation,
-        hole: last.hole,
+        Ok(Part {
+            value: relation::emit_relation(image, after_cell, t.kind),
+            next,
+        })
     }
-}
 
-// After a condition's expression: a relation and its cell, or a test.
-pub fn comparison(
-    source: &[u8],
-    table: &[u16],
-    image: &mut [u16],
-    context: Context,
-    at: usize,
-    output: Output,
-) -> ConditionAnswer
-    ensures { Decides comparison_words context output image.old image.new result
-        (comparison_at source.now context table.now at) }
-{
-    let t = token_at(source, at);
-    if 0 < vocabulary::relation(t.kind) {
-        return related(source, table, image, context, t, output);
-    }
-    let test = vocabulary::test(t.kind);
-    if 0 < test {
-        let last = relation::emit_test(image, output, (test - 1) as usize);
-        let after_test = last.output;
-        return ConditionAnswer {
-            part: Part::Read { next: t.next },
-            output: after_test,
-            hole: last.hole,
-        };
-    }
-    let part = fail_at(t, failures::NOT_ALLOWED);
-    ConditionAnswer {
-        part,
-        output,
-        hole: 0,
+    // After a condition's expression: a relation and its cell, or a test.
+    pub(crate) fn comparison(&self, image: &mut [u16], output: Output, at: usize) -> Read<Guarded>
+        ensures { Decides comparison_words self.now output image.old image.new result (comparison_at self.now at) }
+    {
+        let t = token_at(self.reader.source, at);
+        if vocabulary::is_relation(t.kind) {
+            return self.related(image, output, t);
+        }
+        if let Some(test) = vocabulary::test(t.kind) {
+            return Ok(Part {
+                value: relation::emit_test(image, output, test),
+                next: t.next,
+            });
+        }
+        Err(fail_at(t, Cause::NotAllowed))
     }
 }

@@ -1,5 +1,5 @@
 // Unary words. They stand before the term and their instructions after it, the last word's first (W4), so they are read twice:
-// to go past them, and to emit them from the end.
+// to go past them, and to emit them from the end. Each is a loop of its own, since a closure for all would have to carry the image's loan.
 ghost use Rattle.std.specs.Prelude.{◌≡◌, ◌+◌, ◌≤◌, min, length};
 ghost use Rattle.std.proofs.lemmas.List.Edits.{sets};
 ghost use Rattle.layout.specs.Emission.{last_address};
@@ -18,13 +18,9 @@ pub fn unaries_next(source: &[u8], at: usize) -> usize
     ensures { result ≡ unaries_next source.now at }
 {
     let mut i = at;
-    let mut k = source.len();
-    while 0 < k {
-        k -= 1;
+    for _left in (0..source.len()).rev() {
         let t = token_at(source, i);
-        if unary(t.kind) == 0 {
-            return i;
-        }
+        let Some(_) = unary(t.kind) else { return i };
         i = t.next;
     }
     i
@@ -42,11 +38,7 @@ fn width(kind: u16) -> u16
 fn advance(at: u16, words: u16) -> u16
     ensures { result ≡ min last_address (at + words) }
 {
-    if LAST_ADDRESS - at < words {
-        LAST_ADDRESS
-    } else {
-        at + words
-    }
+    at.saturating_add(words)
 }
 
 // The address after their instructions, up to the last.
@@ -56,13 +48,9 @@ fn unaries_end(source: &[u8], at: usize, start: u16) -> u16
 {
     let mut i = at;
     let mut end = start;
-    let mut k = source.len();
-    while 0 < k {
-        k -= 1;
+    for _left in (0..source.len()).rev() {
         let t = token_at(source, i);
-        if unary(t.kind) == 0 {
-            return end;
-        }
+        let Some(_) = unary(t.kind) else { return end };
         end = advance(end, width(t.kind));
         i = t.next;
     }
@@ -71,11 +59,11 @@ fn unaries_end(source: &[u8], at: usize, start: u16) -> u16
 
 // The instructions of one word from an address on, by its kind and its last slot.
 #[tactic(auto, unfolding(crate::specs::Unaries::unary_values))]
-fn place_unary(image: &mut [u16], at: usize, kind: u16, last: u16)
+fn place_unary(image: &mut [u16], at: usize, kind: u16, last: usize)
     requires { at ≤ last_address }
     ensures { image.new ≡ sets image.old at (unary_values kind last) }
 {
-    let word = generic_word(last as usize);
+    let word = generic_word(last);
     if kind == kind::ABS {
         store(image, at, generic_word(slot::SPL));
         store(image, at + 1, word);
@@ -92,16 +80,11 @@ fn place_unaries(source: &[u8], image: &mut [u16], at: usize, end: u16)
 {
     let mut i = at;
     let mut place = end;
-    let mut k = source.len();
-    while 0 < k {
-        k -= 1;
+    for _left in (0..source.len()).rev() {
         let t = token_at(source, i);
-        let last = unary(t.kind);
-        if last == 0 {
-            return;
-        }
+        let Some(last) = unary(t.kind) else { return };
         place -= width(t.kind);
-        place_unary(image, place as usize, t.kind, last - 1);
+        place_unary(image, place as usize, t.kind, last);
         i = t.next;
     }
 }
@@ -110,11 +93,10 @@ fn place_unaries(source: &[u8], image: &mut [u16], at: usize, end: u16)
 pub fn emit_unaries(source: &[u8], image: &mut [u16], at: usize, output: Output) -> Output
     ensures { AlwaysDoes (λ _. unary_words_at source.now at) output image.old image.new result }
 {
-    let pool = output.pool;
-    let end = unaries_end(source, at, output.next);
-    if end == LAST_ADDRESS {
-        return Output { next: end, pool };
+    let next = unaries_end(source, at, output.next);
+    if next == LAST_ADDRESS {
+        return Output { next, ..output };
     }
-    place_unaries(source, image, at, end);
-    Output { next: end, pool }
+    place_unaries(source, image, at, next);
+    Output { next, ..output }
 }

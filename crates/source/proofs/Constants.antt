@@ -1,23 +1,17 @@
 -- Constants: the token of a capped number is that of the number.
-use mathlib.Core.Path.{◌≡◌, refl, ap}
-use Prim.Native.Nat.{ℕ, zero, suc, ◌+◌, ◌-◌, ◌%◌, ◌≤◌, ◌<◌, min}
+use mathlib.Core.Path.{◌≡◌, refl, ap, ◌∙◌}
+use Prim.Native.Nat.{ℕ, suc, ◌+◌, ◌≤◌, ◌<◌, min}
 use mathlib.Core.Bool.{Bool, true, false}
-use mathlib.Core.List.{List, [], ◌∷◌}
-use native.Mathlib.Nat.{zero-add, suc-add}
+use mathlib.Core.List.{List}
 use native.Mathlib.Omega.{arith}
 use borrow.Author.Tests.{leb-true, leb-false, le-leb, lt-leb, eq-eqb, ne_eqb}
 use lib.Dec.{leb}
-use lib.ListN.{take, drop}
-use lib.Seq.{slice, take-nil}
-use Rattle.source.specs.Bytes.{is_digit, is_octal_digit, span}
-use Rattle.source.specs.Kinds
-use Rattle.source.specs.Tokens.{number, constant_token, decimal_token, negative_token, octal_token}
-
--- a part of the source, from an offset on and from one offset up to another
-pub part : (s : List ℕ) (i n : ℕ) → slice i (i + n) s ≡ take n (drop i s)
-part s zero n = rw zero-add
-part [] (suc i) n = rw (take-nil (suc i + n), take-nil n)
-part (b ∷ s) (suc i) n = rw (suc-add i n) (part s i n)
+use lib.ListN.{take}
+use Rattle.source.specs.Bytes.{is_digit, span}
+use Rattle.source.specs.Classes.{passes}
+use Rattle.source.specs.Signed.{bits_of, signed_token}
+use Rattle.source.specs.Tokens.{token, number, constant_token, decimal_token}
+use Rattle.source.specs.declared.constant.Sign.{Sign}
 
 pub same :
     (n m limit v w at width : ℕ) → limit < 65536 → m ≡ min n 65536 → (n ≤ limit → w ≡ v)
@@ -29,50 +23,34 @@ same n m limit v w at width small e f = go (leb n limit) refl
     go true q = let l = leb-true n limit q in rw (q, le-leb m limit (omega arith), f l)
     go false q = let l = leb-false n limit q in rw (q, lt-leb m limit (omega arith))
 
-module _ (s : List ℕ) (m : ℕ) where
+module _ (bs : List ℕ) (m at width : ℕ) where
   -- the constant of a span of digits, whose word goes by its number
   of_span :
-      (p : ℕ → Bool) (base limit : ℕ) (f : ℕ → ℕ) (at from next width : ℕ) → limit < 65536
-      → next ≡ from + span p (drop from s) → m ≡ min (number base 0 (slice from next s)) 65536 → next - at ≡ width
-      → constant_token m limit (f m) at (next - at)
-      ≡ constant_token (number base 0 (take (span p (drop from s)) (drop from s))) limit (f (number base 0 (take (span p (drop from s)) (drop from s)))) at width
-  of_span p base limit f at from next width small e q w =
-      let r : m ≡ min (number base 0 (take (span p (drop from s)) (drop from s))) 65536 = rw (← part s from (span p (drop from s)), ← e) q in
-      rw w (same _ m limit _ _ at width small r (λ l. ap f (omega arith)))
+      (p : ℕ → Bool) (base limit : ℕ) (f : ℕ → ℕ) (w : ℕ) → limit < 65536 → width ≡ span p bs → m ≡ min (number base 0 (take width bs)) 65536
+      → constant_token m limit (f m) at w ≡ constant_token (number base 0 (take (span p bs) bs)) limit (f (number base 0 (take (span p bs) bs))) at w
+  of_span p base limit f w small e q =
+      let r : m ≡ min (number base 0 (take (span p bs) bs)) 65536 = rw (← e) q in
+      same _ m limit _ _ at w small r (λ l. ap f (omega arith))
 
-  pub decimal :
-      (at next : ℕ) → next ≡ at + span is_digit (drop at s) → m ≡ min (number 10 0 (slice at next s)) 65536
-      → constant_token m 32767 m at (next - at) ≡ decimal_token (drop at s) at
+  pub of_digits : width ≡ span is_digit bs → m ≡ min (number 10 0 (take width bs)) 65536 → constant_token m 32767 m at width ≡ decimal_token bs at
   unfolding decimal_token
-  decimal at next e q = of_span is_digit 10 32767 (λ n. n) at at next _ (omega arith) e q (omega arith)
+  of_digits e q = of_span is_digit 10 32767 (λ n. n) width (omega arith) e q ∙ rw e refl
 
-  pub negative :
-      (at next : ℕ) → next ≡ at + 1 + span is_digit (drop (at + 1) s) → (next ≡ at + 1 → ⊥) → m ≡ min (number 10 0 (slice (at + 1) next s)) 65536
-      → constant_token m 32768 ((65536 - m) % 65536) at (next - at) ≡ negative_token (drop (at + 1) s) at
-  unfolding negative_token
-  negative at next e some q =
-      rw (ne_eqb (span is_digit (drop (at + 1) s)) 0 (λ z. some (omega arith)))
-      (of_span is_digit 10 32768 (λ n. (65536 - n) % 65536) at (at + 1) next _ (omega arith) e q (omega arith))
+  pub behind :
+      (sign : Sign) → sign.limit < 65536 → width ≡ span (passes sign.digits) bs → (width ≡ 0 → ⊥) → m ≡ min (number sign.base 0 (take width bs)) 65536
+      → constant_token m sign.limit (bits_of sign.negates m) at (width + 1) ≡ signed_token sign bs at
+  behind sign small e some q =
+      let n : width + 1 ≡ suc (span (passes sign.digits) bs) = omega arith in
+      rw (ne_eqb (span (passes sign.digits) bs) 0 (λ z. some (omega arith)), n) (of_span (passes sign.digits) sign.base sign.limit (bits_of sign.negates) _ small e q)
 
-  pub octal :
-      (at next : ℕ) → next ≡ at + 1 + span is_octal_digit (drop (at + 1) s) → (next ≡ at + 1 → ⊥) → m ≡ min (number 8 0 (slice (at + 1) next s)) 65536
-      → constant_token m 65535 m at (next - at) ≡ octal_token (drop (at + 1) s) at
-  unfolding octal_token
-  octal at next e some q =
-      rw (ne_eqb (span is_octal_digit (drop (at + 1) s)) 0 (λ z. some (omega arith)))
-      (of_span is_octal_digit 8 65535 (λ n. n) at (at + 1) next _ (omega arith) e q (omega arith))
+  pub alone : (sign : Sign) → width ≡ span (passes sign.digits) bs → width ≡ 0 → token sign.kind 0 at 1 ≡ signed_token sign bs at
+  alone sign e none = rw (eq-eqb (span (passes sign.digits) bs) 0 (omega arith)) refl
 
-module _ (s : List ℕ) (at next : ℕ) (none : next ≡ at + 1) where
-  pub minus_alone : next ≡ at + 1 + span is_digit (drop (at + 1) s) → record { kind = Kinds.minus; value = 0; at = at; next = next } ≡ negative_token (drop (at + 1) s) at
-  unfolding negative_token
-  minus_alone e = rw (eq-eqb (span is_digit (drop (at + 1) s)) 0 (omega arith), none)
+-- a word of 16 bits
+pub small : (negates : Bool) (n limit : ℕ) → limit < 65536 → n ≤ limit → bits_of negates n < 65536
+small true n limit s h = omega arith
+small false n limit s h = omega arith
 
-  pub quote_alone : next ≡ at + 1 + span is_octal_digit (drop (at + 1) s) → record { kind = Kinds.quote; value = 0; at = at; next = next } ≡ octal_token (drop (at + 1) s) at
-  unfolding octal_token
-  quote_alone e = rw (eq-eqb (span is_octal_digit (drop (at + 1) s)) 0 (omega arith), none)
+pub ruleset for_decimal = (of_digits)
 
-pub ruleset for_decimal_at = (decimal)
-
-pub ruleset for_negative_at = (negative, minus_alone)
-
-pub ruleset for_octal_at = (octal, quote_alone)
+pub ruleset for_signed = (behind, alone, small)

@@ -5,7 +5,8 @@ pub mod Numbers
 pub mod Constants
 pub mod Signs
 pub mod Same
-pub mod KeywordLaws
+pub mod Tables
+pub mod Widths
 pub mod Choices
 pub mod Bounds
 pub mod Names

@@ -8,8 +8,8 @@ use native.Mathlib.Numerals.{add-one}
 use native.Mathlib.Omega.{arith}
 use borrow.Author.Tests.{ltb-true, ltb-false}
 use lib.Dec.{ltb}
-use lib.ListN.{length, get_or, take, drop_of_length-le}
-use lib.Seq.{slice, slice-cons, length-take-le}
+use lib.ListN.{length, get_or, drop, drop_of_length-le}
+use lib.Seq.{drop-cons}
 use Rattle.source.specs.Tokens.{number}
 
 module _ (base : ℕ) (some : 0 < base) where
@@ -29,14 +29,14 @@ module _ (base : ℕ) (some : 0 < base) where
 
   -- one digit more
   pub next :
-      (s : List ℕ) (i to n m : ℕ) → i < to → to ≤ length s → m ≡ min (base * n + (get_or s i 0 - 48)) 65536
-      → min (number base m (slice (i + 1) to s)) 65536 ≡ min (number base n (slice i to s)) 65536
+      (ds : List ℕ) (i n m : ℕ) → i < length ds → m ≡ min (base * n + (get_or ds i 0 - 48)) 65536
+      → min (number base m (drop (i + 1) ds)) 65536 ≡ min (number base n (drop i ds)) 65536
   unfolding number
-  next s i to n m h k e = rw (add-one, slice-cons i to s 0 h k) (capped (slice (suc i) to s) m (base * n + (get_or s i 0 - 48)) (omega arith))
+  next ds i n m h e = rw (add-one, drop-cons ds i 0 h) (capped (drop (suc i) ds) m (base * n + (get_or ds i 0 - 48)) (omega arith))
 
 -- no digit is left
-pub done : (base : ℕ) (s : List ℕ) (i to n : ℕ) → to ≤ i → to ≤ length s → number base n (slice i to s) ≡ n
+pub done : (base : ℕ) (ds : List ℕ) (i n : ℕ) → length ds ≤ i → number base n (drop i ds) ≡ n
 unfolding number
-done base s i to n h k = let l : length (take to s) ≤ i = omega (arith, length-take-le to s k) in rw (drop_of_length-le (take to s) l)
+done base ds i n h = rw (drop_of_length-le ds h)
 
 pub ruleset for_number_of = (next, done)

@@ -1,7 +1,6 @@
 -- Tests: the parts of one, and one that antt computes at every number below another.
-use mathlib.Core.Path.{◌≡◌, refl}
 use Prim.Native.Nat.{ℕ, zero, suc, ◌≤◌, ◌<◌}
-use mathlib.Core.Bool.{Bool, true, false, not, ◌&&◌}
+use mathlib.Core.Bool.{Bool, true, false, ◌&&◌}
 use mathlib.Core.Logic.{⊎_elim}
 use native.Mathlib.Nat.{eq-or-lt_of_le}
 use native.Mathlib.Omega.{arith}
@@ -14,10 +13,6 @@ and_left false b t = t
 pub and_right : (a b : Bool) → T (a && b) → T b
 and_right true b t = t
 and_right false b t = absurd t
-
-pub is_false : (a : Bool) → T (not a) → a ≡ false
-is_false true t = absurd t
-is_false false t = refl
 
 -- a test passes at every number below another
 abbrev pub all_below : (ℕ → Bool) → ℕ → Bool

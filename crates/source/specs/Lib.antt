@@ -4,4 +4,6 @@ pub mod Kinds
 pub mod Keywords
 pub mod Classes
 pub mod Tokens
+pub mod Signed
+pub mod Tables
 pub mod Examples

@@ -8,17 +8,14 @@ use crate::Token;
 pub fn is_between(low: u8, high: u8, b: u8) -> bool
     ensures { result ≡ between low high b }
 {
-    if b < low {
-        return false;
-    }
-    b <= high
+    (low..=high).contains(&b)
 }
 
 // The byte at an offset, or 0 past the end.
 pub fn byte_at(source: &[u8], at: usize) -> u8
     ensures { result ≡ get_or source.now at 0 }
 {
-    if at < source.len() { source[at] } else { 0 }
+    source.get(at).copied().unwrap_or(0)
 }
 
 // A byte of a name, of which the first six count (T7); 0 past its end.
@@ -26,16 +23,10 @@ pub fn byte_at(source: &[u8], at: usize) -> u8
 pub fn name_byte(source: &[u8], name: Token, i: usize) -> u8
     ensures { result ≡ get_or (name_of source.now name) i 0 }
 {
-    let at = name.at;
-    let next = name.next;
-    if 6 <= i {
-        return 0;
+    let width = name.next.saturating_sub(name.at);
+    if i < width.min(6) {
+        byte_at(source, name.at + i)
+    } else {
+        0
     }
-    if next <= at {
-        return 0;
-    }
-    if next - at <= i {
-        return 0;
-    }
-    byte_at(source, at + i)
 }

@@ -1,79 +1,86 @@
 // Constants in figures.
-ghost use Rattle.std.specs.Prelude.{◌≡◌, ◌+◌, ◌-◌, ◌≤◌, ◌<◌, length, drop};
-ghost use Rattle.source.specs.Tokens.{constant_token, decimal_token, negative_token, octal_token};
+ghost use Rattle.std.specs.Prelude.{◌≡◌, ◌+◌, ◌^◌, ◌≤◌, ◌<◌, length};
+ghost use Rattle.source.specs.Signed.{bits_of, signed_token};
+ghost use Rattle.source.specs.Tokens.{constant_token, decimal_token};
 
-use crate::span::Class;
-use crate::{Token, kind, number, span};
+use crate::span::{self, Class};
+use crate::{Token, kind, number};
+
+// A sign ahead of digits: its kind where it stands alone; the digits and their base; the largest number; whether the constant is that number below 0.
+#[derive(Clone, Copy, Debug, PartialEq, Eq)]
+pub struct Sign {
+    pub kind: u16,
+    pub digits: Class,
+    pub base: u32,
+    pub limit: u32,
+    pub negates: bool,
+}
+
+impl Sign {
+    // The 16 bits of a number behind the sign.
+    fn word_of(self, n: u32) -> u32
+        requires { n ≤ 65536 }
+        ensures { result ≡ bits_of self.negates n }
+    {
+        if self.negates { (65536 - n) % 65536 } else { n }
+    }
+}
+
+pub const MINUS: Sign = Sign {
+    kind: kind::MINUS_SIGN,
+    digits: Class::Digit,
+    base: 10,
+    limit: 32768,
+    negates: true,
+};
+
+pub const QUOTE: Sign = Sign {
+    kind: kind::QUOTE,
+    digits: Class::OctalDigit,
+    base: 8,
+    limit: 65535,
+    negates: false,
+};
 
 // The word counts only where the number is up to the limit.
 #[tactic(auto, unfolding(crate::specs::Tokens::constant_token))]
-fn constant(n: u32, limit: u32, word: u32, at: usize, next: usize) -> Token
-    requires { (at ≤ next) × (n ≤ limit → word < 65536) }
-    ensures { result ≡ constant_token n limit word at (next - at) }
+fn constant(n: u32, limit: u32, word: u32, at: usize, width: usize) -> Token
+    requires { (n ≤ limit → word < 65536) × (at + width < 2 ^ 64) }
+    ensures { result ≡ constant_token n limit word at width }
 {
     if n <= limit {
-        return Token {
+        Token {
             kind: kind::NUMERAL,
             value: word as u16,
             at,
-            next,
-        };
-    }
-    Token {
-        kind: kind::OUT_OF_RANGE,
-        value: 0,
-        at,
-        next,
+            next: at + width,
+        }
+    } else {
+        Token::plain(kind::OUT_OF_RANGE, at, width)
     }
 }
 
-// From its first digit on.
-#[tactic(auto, using(crate::proofs::SpanLaws::for_decimal_at, crate::proofs::Constants::for_decimal_at))]
-pub fn decimal_at(source: &[u8], at: usize) -> Token
-    requires { at ≤ length source.now }
-    ensures { result ≡ decimal_token (drop at source.now) at }
+// From its first digit on, which stands at an offset.
+#[tactic(auto, using(crate::proofs::Constants::for_decimal))]
+pub fn decimal(bytes: &[u8], at: usize) -> Token
+    requires { at + length bytes.now < 2 ^ 64 }
+    ensures { result ≡ decimal_token bytes.now at }
 {
-    let next = span::span_end(source, at, Class::Digit);
-    let n = number::number_of(source, at, next, 10);
-    constant(n, 32767, n, at, next)
+    let width = span::width(bytes, Class::Digit);
+    let n = number::number_of(&bytes[..width], 10);
+    constant(n, 32767, n, at, width)
 }
 
-// From its minus on, which is the sign where no digit follows.
-#[tactic(auto, using(crate::proofs::SpanLaws::for_negative_at, crate::proofs::Constants::for_negative_at))]
-pub fn negative_at(source: &[u8], at: usize) -> Token
-    requires { at < length source.now }
-    ensures { result ≡ negative_token (drop (at + 1) source.now) at }
+// Behind a sign, which stands at an offset.
+#[tactic(auto, using(crate::proofs::Constants::for_signed))]
+pub fn signed(sign: Sign, bytes: &[u8], at: usize) -> Token
+    requires { (0 < sign.base) × (sign.base ≤ 10) × (sign.limit < 65536) × (at + 1 + length bytes.now < 2 ^ 64) }
+    ensures { result ≡ signed_token sign bytes.now at }
 {
-    let from = at + 1;
-    let next = span::span_end(source, from, Class::Digit);
-    if next == from {
-        return Token {
-            kind: kind::MINUS_SIGN,
-            value: 0,
-            at,
-            next,
-        };
+    let width = span::width(bytes, sign.digits);
+    if width == 0 {
+        return Token::plain(sign.kind, at, 1);
     }
-    let n = number::number_of(source, from, next, 10);
-    constant(n, 32768, (65536 - n) % 65536, at, next)
-}
-
-// From its quote on, which is the sign where no octal digit follows.
-#[tactic(auto, using(crate::proofs::SpanLaws::for_octal_at, crate::proofs::Constants::for_octal_at))]
-pub fn octal_at(source: &[u8], at: usize) -> Token
-    requires { at < length source.now }
-    ensures { result ≡ octal_token (drop (at + 1) source.now) at }
-{
-    let from = at + 1;
-    let next = span::span_end(source, from, Class::OctalDigit);
-    if next == from {
-        return Token {
-            kind: kind::QUOTE,
-            value: 0,
-            at,
-            next,
-        };
-    }
-    let n = number::number_of(source, from, next, 8);
-    constant(n, 65535, n, at, next)
+    let n = number::number_of(&bytes[..width], sign.base);
+    constant(n, sign.limit, sign.word_of(n), at, width + 1)
 }

@@ -1,108 +1,106 @@
 // Keywords: a point and letters.
-ghost use Rattle.std.specs.Prelude.{◌≡◌, ◌+◌, ◌-◌, ◌≤◌, ◌<◌, length, take, drop};
-ghost use Rattle.source.specs.Bytes.{is_digit, span, same_bytes};
+ghost use Rattle.std.specs.Prelude.{◌≡◌, ◌+◌, ◌^◌, ◌≤◌, ◌<◌, length};
 ghost use Rattle.source.specs.Keywords.{keyword_length, keyword_kind};
+ghost use Rattle.source.specs.Tables.{kind_among};
 ghost use Rattle.source.specs.Tokens.{keyword_token};
 
-use crate::span::Class;
-use crate::{Token, kind, span};
+use crate::span::{self, Class};
+use crate::{Token, kind};
 
-const COUNT: usize = 54;
-
-// Where each keyword starts in the letters of all, and where the last ends.
-const STARTS: [usize; 55] = [
-    0, 5, 8, 15, 23, 35, 40, 50, 59, 70, 72, 76, 80, 84, 89, 91, 94, 98, 101, 104, 108, 111, 114,
-    117, 120, 123, 126, 129, 135, 140, 144, 151, 157, 160, 163, 166, 169, 172, 175, 178, 185, 189,
-    194, 197, 201, 205, 209, 215, 221, 227, 233, 239, 244, 247, 254,
+static KEYWORDS: [(&[u8], u16); 54] = [
+    (b"BEGIN", kind::BEGIN),
+    (b"END", kind::END),
+    (b"INTEGER", kind::INTEGER),
+    (b"CONSTANT", kind::CONSTANT),
+    (b"COMPCONSTANT", kind::COMPCONSTANT),
+    (b"ARRAY", kind::ARRAY),
+    (b"NEXTSECTOR", kind::NEXTSECTOR),
+    (b"PROCEDURE", kind::PROCEDURE),
+    (b"ACCUMULATOR", kind::ACCUMULATOR),
+    (b"IF", kind::IF),
+    (b"THEN", kind::THEN),
+    (b"ELSE", kind::ELSE),
+    (b"WHEN", kind::WHEN),
+    (b"WHILE", kind::WHILE),
+    (b"DO", kind::DO),
+    (b"FOR", kind::FOR),
+    (b"ZERO", kind::ZERO),
+    (b"AND", kind::AND),
+    (b"NEV", kind::NEV),
+    (b"ADDC", kind::ADDC),
+    (b"INC", kind::INC),
+    (b"NEG", kind::NEG),
+    (b"SSP", kind::SSP),
+    (b"SSM", kind::SSM),
+    (b"CHS", kind::CHS),
+    (b"CSA", kind::CSA),
+    (b"NOT", kind::NOT),
+    (b"ICLEFT", kind::ICLEFT),
+    (b"CLEFT", kind::CLEFT),
+    (b"SWOP", kind::SWOP),
+    (b"ICRIGHT", kind::ICRIGHT),
+    (b"CRIGHT", kind::CRIGHT),
+    (b"ABS", kind::ABS),
+    (b"LGR", kind::LGR),
+    (b"ARS", kind::ARS),
+    (b"ARR", kind::ARR),
+    (b"LGL", kind::LGL),
+    (b"ALS", kind::ALS),
+    (b"ALR", kind::ALR),
+    (b"NONZERO", kind::NONZERO),
+    (b"PLUS", kind::PLUS),
+    (b"MINUS", kind::MINUS),
+    (b"ODD", kind::ODD),
+    (b"EVEN", kind::EVEN),
+    (b"CSET", kind::CSET),
+    (b"NOTC", kind::NOTC),
+    (b"SENSE1", kind::SENSE1),
+    (b"SENSE2", kind::SENSE2),
+    (b"SENSE3", kind::SENSE3),
+    (b"SENSE4", kind::SENSE4),
+    (b"ANYKEY", kind::ANYKEY),
+    (b"NOKEY", kind::NOKEY),
+    (b"MOD", kind::MOD),
+    (b"CHECKED", kind::CHECKED),
 ];
 
-#[tactic(auto, using(crate::proofs::Same::for_same))]
-fn same(a: &[u8], b: &[u8]) -> bool
-    ensures { result ≡ same_bytes a.now b.now }
+// What stands in no row carries a failure, as an unknown byte does. The rows are lent, since a proof does not look into a static.
+#[tactic(auto, unfolding(crate::specs::Tables::kind_among))]
+fn kind_in(rows: &[(&[u8], u16)], keyword: &[u8]) -> u16
+    ensures { result ≡ kind_among rows.now keyword.now }
 {
-    if a.len() != b.len() {
-        return false;
-    }
-    let mut i = 0;
-    while i < a.len() {
-        if a[i] != b[i] {
-            return false;
-        }
-        i += 1;
-    }
-    true
+    rows.iter()
+        .find(|row| keyword == row.0)
+        .map_or(kind::UNKNOWN, |row| row.1)
 }
 
-// Its own function, because a part can be taken of a parameter and not of a byte string.
-fn same_part(keyword: &[u8], letters: &[u8], from: usize, to: usize) -> bool
-    requires { (from ≤ to) × (to ≤ length letters.now) }
-    ensures { result ≡ same_bytes keyword.now (take (to - from) (drop from letters.now)) }
-{
-    same(keyword, &letters[from..to])
-}
-
-// What is not in the table carries a failure, as an unknown byte does. The tables are made once, ahead of the loop.
-#[tactic(auto, using(crate::proofs::KeywordLaws::for_keyword_kind))]
 fn keyword_kind(keyword: &[u8]) -> u16
     ensures { result ≡ keyword_kind keyword.now }
 {
-    let letters =
-        b"BEGINENDINTEGERCONSTANTCOMPCONSTANTARRAYNEXTSECTORPROCEDUREACCUMULATORIFTHENELSEWHENWHILEDOFOR\
-          ZEROANDNEVADDCINCNEGSSPSSMCHSCSANOTICLEFTCLEFTSWOPICRIGHTCRIGHTABS\
-          LGRARSARRLGLALSALRNONZEROPLUSMINUSODDEVENCSETNOTCSENSE1SENSE2SENSE3SENSE4ANYKEYNOKEYMODCHECKED";
-    let starts = STARTS;
-    let mut k: usize = 0;
-    while k < COUNT {
-        let from = starts[k];
-        let to = starts[k + 1];
-        if same_part(keyword, letters, from, to) {
-            return kind::BEGIN + k as u16;
-        }
-        k += 1;
-    }
-    kind::UNKNOWN
-}
-
-// After one digit, if there is one.
-#[tactic(auto, using(crate::proofs::KeywordLaws::for_digit_end))]
-fn digit_end(source: &[u8], at: usize) -> usize
-    requires { at ≤ length source.now }
-    ensures { (result ≡ at + span is_digit (take 1 (drop at source.now))) × (result ≤ length source.now) }
-{
-    if at < source.len() {
-        if span::is_in(Class::Digit, source[at]) {
-            return at + 1;
-        }
-    }
-    at
+    kind_in(&KEYWORDS, keyword)
 }
 
 // Letters, and after `SENSE` one digit.
-#[tactic(auto, using(crate::proofs::SpanLaws::for_keyword_end, crate::proofs::KeywordLaws::for_keyword_end))]
-fn keyword_end(source: &[u8], from: usize) -> usize
-    requires { from ≤ length source.now }
-    ensures { (result ≡ from + keyword_length (drop from source.now)) × (result ≤ length source.now) }
+#[tactic(auto, using(crate::proofs::Widths::for_keyword_width))]
+fn keyword_width(bytes: &[u8]) -> usize
+    ensures { (result ≡ keyword_length bytes.now) × (result ≤ length bytes.now) }
 {
-    let end = span::span_end(source, from, Class::Letter);
-    if same(&source[from..end], b"SENSE") {
-        return digit_end(source, end);
+    let letters = span::width(bytes, Class::Letter);
+    let (word, rest) = bytes.split_at(letters);
+    if word == b"SENSE".as_slice() {
+        letters + span::width(&rest[..rest.len().min(1)], Class::Digit)
+    } else {
+        letters
     }
-    end
 }
 
-// From its point on.
-#[tactic(auto, using(crate::proofs::KeywordLaws::for_keyword_at))]
-pub fn keyword_at(source: &[u8], at: usize) -> Token
-    requires { at < length source.now }
-    ensures { result ≡ keyword_token (drop (at + 1) source.now) at }
+// Behind its point, which stands at an offset.
+#[tactic(auto, unfolding(crate::specs::Tokens::keyword_token))]
+pub fn keyword(bytes: &[u8], at: usize) -> Token
+    requires { at + 1 + length bytes.now < 2 ^ 64 }
+    ensures { result ≡ keyword_token bytes.now at }
 {
-    let from = at + 1;
-    let next = keyword_end(source, from);
-    let kind = keyword_kind(&source[from..next]);
-    Token {
-        kind,
-        value: 0,
-        at,
-        next,
-    }
+    let width = keyword_width(bytes);
+    let kind = keyword_kind(&bytes[..width]);
+    Token::plain(kind, at, width + 1)
 }

@@ -1,78 +1,45 @@
-// Signs of one and two bytes. Past the end of the source a second byte reads as 0, which no sign has.
-ghost use Rattle.std.specs.Prelude.{◌≡◌, [], ◌∷◌, ◌+◌, ◌<◌, length, drop};
-ghost use Rattle.source.specs.Tokens.{token, sign_token};
+// Signs of one and two bytes.
+ghost use Rattle.std.specs.Prelude.{◌≡◌, ◌+◌, ◌^◌, ◌<◌, length};
+ghost use Rattle.source.specs.Tokens.{sign_token};
+ghost use Rattle.source.specs.Tables.{sign_among};
 
-use crate::{Token, byte, kind};
+use crate::{Token, kind};
 
-// A sign as if it stood at offset 0.
-fn sign(kind: u16, width: usize) -> Token
-    ensures { result ≡ token kind 0 0 width }
+// Those of two bytes stand first, since the longest is taken (T4).
+static SIGNS: [(&[u8], u16); 17] = [
+    (b"<>", kind::NOT_EQUAL),
+    (b"<=", kind::AT_MOST),
+    (b">=", kind::AT_LEAST),
+    (b"<", kind::LESS),
+    (b">", kind::GREATER),
+    (b"=", kind::EQUAL),
+    (b";", kind::SEMICOLON),
+    (b",", kind::COMMA),
+    (b"+", kind::PLUS_SIGN),
+    (b"*", kind::STAR),
+    (b"/", kind::SLASH),
+    (b"(", kind::LEFT_PARENTHESIS),
+    (b")", kind::RIGHT_PARENTHESIS),
+    (b"[", kind::LEFT_BRACKET),
+    (b"]", kind::RIGHT_BRACKET),
+    (b"@", kind::AT),
+    (b"#", kind::HASH),
+];
+
+// The kind and the width of the first row that the bytes begin with; a byte that begins no sign carries a failure (T2, F4).
+#[tactic(auto, unfolding(crate::specs::Tables::sign_among))]
+fn sign_in(rows: &[(&[u8], u16)], bytes: &[u8]) -> (u16, usize)
+    ensures { result ≡ sign_among rows.now bytes.now }
 {
-    Token {
-        kind,
-        value: 0,
-        at: 0,
-        next: width,
-    }
+    rows.iter()
+        .find(|row| bytes.starts_with(row.0))
+        .map_or((kind::UNKNOWN, 1), |row| (row.1, row.0.len()))
 }
 
-#[tactic(auto, unfolding(crate::specs::Tokens::sign_token, prelude::specs::Choice::find, crate::specs::Bytes::starts_with))]
-fn less(second: u8) -> Token
-    ensures { result ≡ sign_token (60 ∷ second ∷ []) 0 }
+pub fn sign(bytes: &[u8], at: usize) -> Token
+    requires { (0 < length bytes.now) × (at + length bytes.now < 2 ^ 64) }
+    ensures { result ≡ sign_token bytes.now at }
 {
-    if second == b'>' {
-        return sign(kind::NOT_EQUAL, 2);
-    }
-    if second == b'=' {
-        return sign(kind::AT_MOST, 2);
-    }
-    sign(kind::LESS, 1)
-}
-
-#[tactic(auto, unfolding(crate::specs::Tokens::sign_token, prelude::specs::Choice::find, crate::specs::Bytes::starts_with))]
-fn greater(second: u8) -> Token
-    ensures { result ≡ sign_token (62 ∷ second ∷ []) 0 }
-{
-    if second == b'=' {
-        return sign(kind::AT_LEAST, 2);
-    }
-    sign(kind::GREATER, 1)
-}
-
-// The sign that two bytes begin with, as if it stood at offset 0.
-#[tactic(auto, using(crate::proofs::Signs::for_sign_of))]
-fn sign_of(first: u8, second: u8) -> Token
-    ensures { result ≡ sign_token (first ∷ second ∷ []) 0 }
-{
-    match first {
-        b'<' => less(second),
-        b'>' => greater(second),
-        b'=' => sign(kind::EQUAL, 1),
-        b';' => sign(kind::SEMICOLON, 1),
-        b',' => sign(kind::COMMA, 1),
-        b'+' => sign(kind::PLUS_SIGN, 1),
-        b'*' => sign(kind::STAR, 1),
-        b'/' => sign(kind::SLASH, 1),
-        b'(' => sign(kind::LEFT_PARENTHESIS, 1),
-        b')' => sign(kind::RIGHT_PARENTHESIS, 1),
-        b'[' => sign(kind::LEFT_BRACKET, 1),
-        b']' => sign(kind::RIGHT_BRACKET, 1),
-        b'@' => sign(kind::AT, 1),
-        b'#' => sign(kind::HASH, 1),
-        _ => sign(kind::UNKNOWN, 1),
-    }
-}
-
-#[tactic(auto, using(crate::proofs::Signs::for_sign_at))]
-pub fn sign_at(source: &[u8], at: usize) -> Token
-    requires { at < length source.now }
-    ensures { result ≡ sign_token (drop at source.now) at }
-{
-    let found = sign_of(source[at], byte::byte_at(source, at + 1));
-    Token {
-        kind: found.kind,
-        value: 0,
-        at,
-        next: at + found.next,
-    }
+    let (kind, width) = sign_in(&SIGNS, bytes);
+    Token::plain(kind, at, width)
 }

@@ -3,4 +3,4 @@ use Rattle.expressions.proofs.RelationLaws.{at_most_lem}
 use Rattle.expressions.proofs.relation.emit_at_most.Goals as goal
 
 pub returns : goal.returns
-returns c = at_most_lem (hole_later c.emit_hole-first.ensures) c.emit_generic-after_nop.ensures.emitted
+returns c = at_most_lem (hole_later c.emit_hole-first.ensures) c.emit_generic.ensures.emitted

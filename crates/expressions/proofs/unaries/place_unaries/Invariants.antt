@@ -9,9 +9,9 @@ use Rattle.expressions.proofs.UnaryLaws.{to_come}
 use Rattle.expressions.proofs.unaries.place_unaries.Given as goal
 
 -- The invariant: the words still to come, placed below `place`, make up the image that is promised.
-abbrev pub invariant-loop-k : goal.invariant-loop-k
-invariant-loop-k l =
-    (length l.image ≡ length l.initial.image) × (l.place ≤ l.end) × (length (to_come l.source l.k l.i) ≤ l.place) × (sets l.image (l.place - length (to_come l.source l.k l.i)) (values (to_come l.source l.k l.i)) ≡ sets l.initial.image (l.end - length (unaries_words (unaries_of l.source l.at))) (values (unaries_words (unaries_of l.source l.at))))
+abbrev pub invariant-loop-left : goal.invariant-loop-left
+invariant-loop-left l =
+    (length l.image ≡ length l.initial.image) × (l.place ≤ l.end) × (length (to_come l.source l._left l.i) ≤ l.place) × (sets l.image (l.place - length (to_come l.source l._left l.i)) (values (to_come l.source l._left l.i)) ≡ sets l.initial.image (l.end - length (unaries_words (unaries_of l.source l.at))) (values (unaries_words (unaries_of l.source l.at))))
 
-abbrev pub decreases-loop-k : goal.decreases-loop-k
-decreases-loop-k l = l.k
+abbrev pub decreases-loop-left : goal.decreases-loop-left
+decreases-loop-left l = l._left

@@ -8,9 +8,9 @@ use Rattle.expressions.proofs.UnaryLaws.{to_come}
 use Rattle.expressions.proofs.unaries.unaries_end.Given as goal
 
 -- The invariant: `end` and the words still to come make up the address after all, up to the last.
-abbrev pub invariant-loop-k : goal.invariant-loop-k
-invariant-loop-k l =
-    (l.end ≤ last_address) × (min last_address (l.end + length (to_come l.source l.k l.i)) ≡ min last_address (l.start + length (unaries_words (unaries_of l.source l.at))))
+abbrev pub invariant-loop-left : goal.invariant-loop-left
+invariant-loop-left l =
+    (l.end ≤ last_address) × (min last_address (l.end + length (to_come l.source l._left l.i)) ≡ min last_address (l.start + length (unaries_words (unaries_of l.source l.at))))
 
-abbrev pub decreases-loop-k : goal.decreases-loop-k
-decreases-loop-k l = l.k
+abbrev pub decreases-loop-left : goal.decreases-loop-left
+decreases-loop-left l = l._left

@@ -1,12 +1,9 @@
 use mathlib.Core.Path.{◌≡◌}
-use Prim.Native.Nat.{◌-◌, ◌≤◌, min}
-use lib.Seq.{slice}
+use Prim.Native.Nat.{◌≤◌, min}
+use lib.ListN.{drop}
 use Rattle.source.specs.Tokens.{number}
 use Rattle.source.proofs.number.number_of.Given as goal
 
 -- The invariant: the number goes on from `n` over the digits that are left.
-abbrev pub invariant-loop-i : goal.invariant-loop-i
-invariant-loop-i l = (l.n ≤ 65536) × (min (number l.base l.n (slice l.i l.to l.source)) 65536 ≡ min (number l.base 0 (slice l.from l.to l.source)) 65536)
-
-abbrev pub decreases-loop-i : goal.decreases-loop-i
-decreases-loop-i l = l.to - l.i
+abbrev pub invariant-loop-b : goal.invariant-loop-b
+invariant-loop-b l = (l.n ≤ 65536) × (min (number l.base l.n (drop l.b-index l.digits)) 65536 ≡ min (number l.base 0 l.digits) 65536)
