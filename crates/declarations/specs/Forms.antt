@@ -13,6 +13,7 @@ use Rattle.grammar.specs.Parse.{Got, and_then, within, is, expect, snoc}
 use Rattle.grammar.specs.Parse.Got.{got}
 use Rattle.grammar.specs.Cells.{parse_in_range}
 use Rattle.grammar.specs.Statements.{parse_outermost}
+use Rattle.storage.specs.Forms.{global_name, items_in, arrays_in, limited_in}
 use Rattle.grammar.specs.Declarations.{ItemKeyword, new_name, size_of, parse_local, parse_list, parse_initials, parse_locals}
 
 -- whether a declaration begins with a token of a kind
