@@ -145,6 +145,12 @@ module _ {A B X : Type 0} {source : List ℕ} {separator : ℕ} {more : B → �
             same = l.same ∙ then_got _ one.is ∙ repeat_some (more_separated source separator (λ a. more (sofar a))) one.tree p.next left z (rw (← k, eq-eqb _ _ n));
           }
 
+-- after the last turn the list ends with one part more
+pub list_end : {A B X : Type 0} {source : List ℕ} {separator : ℕ} {more : B → ℕ → Got A} {sofar : A → B} {w : Got A} {held : B → Type 0} {held' : A → X → Type 0} {kept : Type 0} {from left : ℕ}
+    (l : Sequel source separator more sofar w held from left) {r : Result (Part X) Failure} → Reads held' kept r (more l.done from) → left ≡ 0 → Reads held' kept r w
+list_end {source = source} {separator} {more} {sofar} l (read {t} {n = n} i q d) z = read (l.same ∙ then_got _ i ∙ repeat_zero (more_separated source separator (λ a. more (sofar a))) t n z) q d
+list_end l (fails i q k) z = fails (l.same ∙ then_failed _ i) q k
+
 pub list_next : {A X : Type 0} {source : List ℕ} {separator : ℕ} {more : A → ℕ → Got A} {w : Got A} {held : A → Type 0} {held' : A → X → Type 0} {kept : Type 0} {from left : ℕ} (l : Listing source separator more w held from left)
     {r : Result (Part X) Failure} → Reads held' kept r (more l.done from) → {p : Part X} → r ≡ Ok p → {t : Token} → t ≡ token_at source p.next → (left ≡ 0 → ⊥) → t.kind ≡ separator
     → Listing source separator more w (λ a. held' a p.value) t.next (left - 1)

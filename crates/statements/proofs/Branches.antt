@@ -14,17 +14,20 @@ use Rattle.grammar.specs.Parse.Got.{got}
 use Rattle.layout.specs.Words.{Sym, ◌⧺◌, cond_end, stmt_end, cond_words, stmt_words}
 use Rattle.grammar.specs.Statements.{parse_guarded, parse_if}
 use Rattle.grammar.specs.Expressions.{parse_cond}
+use Rattle.std.specs.Prelude.{Result}
 use Rattle.parser.specs.declared.Part.{Part}
-use Rattle.parser.specs.Reads.{Reads}
+use Rattle.parser.specs.declared.Failure.{Failure}
+use Rattle.expressions.specs.declared.Guarded.{Guarded}
 use Rattle.layout.specs.Emission.{Emitted, Bases, with_word}
 use Rattle.layout.specs.Map.{reference}
 use Rattle.emitter.proofs.EmittedWords as words
 use Rattle.emitter.specs.Lays.{Kept, Lays, ForwardJump, filled}
 use Rattle.emitter.proofs.Lays as lays
+use Rattle.emitter.proofs.Lays.{of_kept}
 use Rattle.layout_laws.proofs.Spans as ends
 use Rattle.expressions.specs.Compiles.{Tests, AlwaysForwardJump}
 use Rattle.expressions.proofs.Branches.{branch_words, branches}
-use Rattle.statements.specs.Forms.{followed, followed_part, guarded_words}
+use Rattle.statements.specs.Forms.{followed, Follows, guarded_words}
 use Rattle.statements.proofs.Forms.{followed_then, follow}
 
 module _ (source : List ℕ) (names : Names) (expr : ℕ → Got Expr) (inner : ℕ → Got Stmt) where
@@ -51,9 +54,9 @@ module _ {f : Bases} {a b : Emitted} where
   fill_end end ends p e = rw e (lays.fill p end (λ h. p.lays.counts h ∙ ends a.next))
 
 -- a part with a jump that is not filled in yet, and a token after it
-pub after_test : {A : Type 0} {f : Bases} {words : A → ℕ → ℕ → List Sym} {a b : Emitted} {hole : ℕ} {part part' : Part} {g : Got A} (source : List ℕ) (kind : ℕ) → Tests f words a b hole part g
-    → part' ≡ followed_part source kind part → Reads (λ t. ForwardJump f a b (words t) hole) (Kept a b) part' (followed source kind g)
-after_test source kind r e = follow source kind r e (λ t h. h.lays.kept) (λ w. w.0)
+pub after_test : {A : Type 0} {f : Bases} {words : A → ℕ → ℕ → List Sym} {a : Emitted} {after : List ℕ} {r r' : Result (Part Guarded) Failure} {g : Got A} (source : List ℕ) (kind : ℕ) → Tests f words a after r g
+    → Follows source kind r r' → Tests f words a after r' (followed source kind g)
+after_test source kind h e = follow source kind h e (λ t j l. of_kept l.lays.kept) (λ w. w)
 
 -- a condition and the statement after it
 pub guards : {f : Bases} {a b d : Emitted} {hole : ℕ} (c : Cond) (s : Stmt) → ForwardJump f a b (cond_words c) hole → Lays f b d (stmt_words s) → ForwardJump f a d (guarded_words (c, s)) hole
@@ -113,11 +116,3 @@ module _ {f : Bases} {a d : Emitted} {hole : ℕ} (part : Cond × Stmt) (p : For
 
         words_are : (at : ℕ) → branch_words (guarded_words part) (stmt_words t) at ≡ stmt_words (Stmt.if c s t) at
         words_are at = rw (guarded_end part at, ends.stmt_end_lem t (suc (stmt_end s (cond_end c at)))) (lays.append_assoc (cond_words c at _) (stmt_words s (cond_end c at)) _)
-
-pub ruleset for_guarded = (guarded_as, after_test, guards)
-
-pub ruleset for_if_statement = (if_as, after_test, first_kept, if_lays)
-
-pub ruleset for_when_statement = (when_lays)
-
-pub ruleset for_while_statement = (while_lays)

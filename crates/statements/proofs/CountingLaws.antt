@@ -23,23 +23,19 @@ use Rattle.grammar.specs.Cells.{refuse, name_as, parse_lone_cell}
 use Rattle.grammar.specs.Statements.{parse_body, parse_for, parse_for_integer, parse_for_x}
 use Rattle.symbols.specs.declared.Id.{Id as CodeId}
 use Rattle.symbols.specs.Trees.{tree_id, tree_symbol}
-use Rattle.parser.specs.declared.Part.{Part}
 use Rattle.symbols.specs.declared.Symbol.{Symbol}
-use Rattle.parser.specs.Answers.{part_of}
 use Rattle.symbols.specs.Lookup.{symbol_at}
 use Rattle.symbols.specs.contracts.Symbol.{the_type}
 use Rattle.layout.specs.Emission.{Emitted, Bases, with_word, emit_word, emit_all}
 use Rattle.layout.specs.Map.{reference}
 use Rattle.emitter.proofs.EmittedWords as words
-use Rattle.emitter.specs.Lays.{WordsAt, Lays}
+use Rattle.emitter.specs.Lays.{Lays}
 use Rattle.emitter.proofs.Lays as lays
 use Rattle.layout_laws.proofs.Spans as ends
-use Rattle.expressions.specs.Compiles.{Compiles}
-use Rattle.statements.specs.Forms.{followed, after_equal, Head, loop_of, counter_of, parse_head, stored_words, loaded_words, head_words, Heads}
-use Rattle.parser.proofs.Answers.{then_failed}
+use Rattle.statements.specs.Forms.{followed, after_equal, Head, loop_of, counter_of, parse_head, stored_words, loaded_words, head_words}
+use Rattle.parser.proofs.Answers.{then_failed, refused_any}
 use Rattle.cells.proofs.StartNames.{name_as_lem}
-use Rattle.parser.specs.Reads.Reads.{fails}
-use Rattle.parser.proofs.ReadLaws.{then_then, reads_as}
+use Rattle.parser.proofs.ReadLaws.{then_then}
 
 -- ---- The head of a `.FOR`
 
@@ -90,17 +86,9 @@ refuse_is A t = go (is Kinds.name t)
     go true = refl
     go false = refl
 
-module _ {f : Bases} {a b : Emitted} {part : Part} where
-  -- a head that counts the integer i
-  pub heads :
-      {A : Type 0} {words : A → WordsAt} {g : Got A} {g' : Got Head} (h : A → Head) (i : Id) → ((x : A) → i ≡ counter_of (h x)) → ((x : A) (at : ℕ) → words x at ≡ head_words (h x) at)
-      → g' ≡ and_then g (λ x n. got (h x) n) → Compiles f words a b part g → Heads f a b part i g'
-  heads h i counts words q c = reads_as h c refl q (λ x l. (lays.same (words x) l, counts x)) (λ w. w)
-
 -- no head
-pub no_head : {f : Bases} {a : Emitted} {part : Part} {i : Id} {g' : Got Head} (t : Token) → g' ≡ refuse t → part ≡ part_of {A = ℕ} (refuse t) → Heads f a a part i g'
-unfolding part_of
-no_head t q p = fails (q ∙ refuse_is Head t) (p ∙ ap part_of (refuse_is ℕ t)) lays.kept_here
+pub no_head : {g' : Got Head} (t : Token) {k at : ℕ} → g' ≡ refuse t → refuse {A = ℕ} t ≡ failed k at → g' ≡ failed k at
+no_head t q p = q ∙ refused_any t p
 
 -- ---- The loop
 
@@ -164,5 +152,3 @@ module _ {f : Bases} {a b d g e : Emitted} (h : Head) (s : Stmt) where
 
       looped : Lays f b e (λ at. stmt_words s at ⧺ last_words h at)
       looped = lays.same_here {v = λ at. stmt_words s at ⧺ last_words h at} refl (lays.sequence q counted)
-
-pub ruleset for_for_statement = (for_as, for_lays)

@@ -1,20 +1,24 @@
 -- A part with a token after it, and words emitted after a part.
 use Prim.Native.Nat.{ℕ}
-use mathlib.Core.Path.{◌≡◌, refl, ap, ◌∙◌}
+use Rattle.std.specs.Prelude.{Result, Ok, Err}
+use mathlib.Core.Path.{◌≡◌, refl, sym, subst, ◌∙◌}
 use mathlib.Core.List.{List}
 use Rattle.grammar.specs.Parse.{Got, and_then, expect}
 use Rattle.grammar.specs.Parse.Got.{got, failed}
 use Rattle.layout.specs.Words.{Sym, ◌⧺◌}
 use Rattle.parser.specs.declared.Part.{Part}
+use Rattle.parser.specs.declared.Failure.{Failure}
+use Rattle.emitter.specs.declared.Output.{Output}
+use Rattle.emitter.specs.Emitted.{emitted_by}
 use Rattle.parser.specs.Reads.{Reads}
 use Rattle.parser.specs.Reads.Reads.{read, fails}
 use Rattle.parser.proofs.Answers.{then_got, then_failed}
-use Rattle.parser.proofs.ReadLaws.{then_then, reads_as, ended_by}
+use Rattle.parser.proofs.ReadLaws.{then_then, came, failed_as, kept_as, reads_as}
 use Rattle.layout.specs.Emission.{Emitted, Bases, emit_all}
 use Rattle.emitter.specs.Lays.{WordsAt, Lays}
 use Rattle.emitter.proofs.Lays as lays
 use Rattle.expressions.specs.Compiles.{Compiles}
-use Rattle.statements.specs.Forms.{followed, followed_part}
+use Rattle.statements.specs.Forms.{followed, Follows}
 
 -- a part and a token after it, then the rest
 pub followed_then :
@@ -24,21 +28,26 @@ unfolding and_then followed
 followed_then source kind (got t n) rest = then_then (expect kind source n) (λ _ m. got t m) rest
 followed_then source kind (failed k a) rest = refl
 
-pub follow : {A : Type 0} {done : A → Type 0} {kept kept' : Type 0} {part part' : Part} {g : Got A} (source : List ℕ) (kind : ℕ) → Reads done kept part g → part' ≡ followed_part source kind part
-    → ((t : A) → done t → kept') → (kept → kept') → Reads done kept' part' (followed source kind g)
-unfolding followed followed_part
-follow source kind (read {t = t} {n = n} i p l) e k w = ended_by t (expect kind source n) (then_got _ i) (e ∙ ap (followed_part source kind) p) l (k t l)
-follow source kind (fails i p v) e k w = fails (then_failed _ i) (e ∙ ap (followed_part source kind) p) (w v)
+pub follow : {A X : Type 0} {done : A → X → Type 0} {kept kept' : Type 0} {r r' : Result (Part X) Failure} {g : Got A} (source : List ℕ) (kind : ℕ) → Reads done kept r g → Follows source kind r r'
+    → ((t : A) (x : X) → done t x → kept') → (kept → kept') → Reads done kept' r' (followed source kind g)
+unfolding followed
+follow {done = done} {r = Ok p} {r' = Ok q} source kind h e k w =
+    let c = came h refl in
+    read (then_got _ c.is ∙ then_got _ e.2) refl (subst (λ x. done c.tree x) (sym e.0) c.holds)
+follow {r = Ok p} {r' = Err f} source kind h e k w =
+    let c = came h refl in
+    fails (then_got _ c.is ∙ then_failed _ e) refl (k c.tree p.value c.holds)
+follow {r = Err f} source kind h e k w = fails (then_failed _ (failed_as h refl)) e (w (kept_as h refl))
 
 -- where the first part was read, the definition is the rest
-pub from_got : {A B : Type 0} {done : B → Type 0} {kept : Type 0} {part : Part} {g : Got A} {t : A} {n : ℕ} (rest : A → ℕ → Got B)
-    → g ≡ got t n → Reads done kept part (rest t n) → Reads done kept part (and_then g rest)
+pub from_got : {A B X : Type 0} {done : B → X → Type 0} {kept : Type 0} {r : Result (Part X) Failure} {g : Got A} {t : A} {n : ℕ} (rest : A → ℕ → Got B)
+    → g ≡ got t n → Reads done kept r (rest t n) → Reads done kept r (and_then g rest)
 from_got rest e c = rw (then_got rest e) c
 
 -- a part that is all of a form, with the same words
-pub as_form : {A B : Type 0} {f : Bases} {words : A → WordsAt} {words' : B → WordsAt} {a b : Emitted} {part : Part} {g : Got A} (h : A → B)
-    → ((t : A) → Lays f a b (words t) → Lays f a b (words' (h t))) → Compiles f words a b part g → Compiles f words' a b part (and_then g (λ t n. got (h t) n))
-as_form h k c = reads_as h c refl refl k (λ w. w)
+pub as_form : {A B : Type 0} {f : Bases} {words : A → WordsAt} {words' : B → WordsAt} {a : Emitted} {after : List ℕ} {r : Result (Part Output) Failure} {g : Got A} (h : A → B)
+    → ((t : A) (o : Output) → Lays f a (emitted_by o after) (words t) → Lays f a (emitted_by o after) (words' (h t))) → Compiles f words a after r g → Compiles f words' a after r (and_then g (λ t n. got (h t) n))
+as_form h k c = reads_as h c refl k (λ w. w)
 
 -- ---- Words emitted after a part
 

@@ -1,5 +1,6 @@
 -- Statements separated by `;`, one after another.
 use Prim.Native.Nat.{ℕ}
+use Rattle.std.specs.Prelude.{Result}
 use mathlib.Core.Path.{refl, ap}
 use mathlib.Core.List.{List, []}
 use mathlib.Core.Option.{Option, none, some}
@@ -13,6 +14,8 @@ use Rattle.grammar.specs.Parse.Got.{got}
 use Rattle.layout.specs.Words.{◌⧺◌, stmt_words, stmts_words}
 use Rattle.grammar.specs.Statements.{parse_stmts, parse_compound}
 use Rattle.parser.specs.declared.Part.{Part}
+use Rattle.parser.specs.declared.Failure.{Failure}
+use Rattle.emitter.specs.declared.Output.{Output}
 use Rattle.parser.proofs.ReadLaws.{Sequel, list_first, reads_as}
 use Rattle.layout.specs.Emission.{Emitted, Bases}
 use Rattle.emitter.specs.Lays.{WordsAt, Lays}
@@ -22,12 +25,12 @@ use Rattle.expressions.specs.Compiles.{Compiles}
 use Rattle.statements.specs.Forms.{followed}
 use Rattle.statements.proofs.Forms.{followed_then, as_form}
 
-module _ {f : Bases} {a b : Emitted} {part : Part} (source : List ℕ) (names : Names) (inner : ℕ → Got Stmt) (at : ℕ) where
+module _ {f : Bases} {a : Emitted} {after : List ℕ} {r : Result (Part Output) Failure} (source : List ℕ) (names : Names) (inner : ℕ → Got Stmt) (at : ℕ) where
   pub compounded :
-      Compiles f stmts_words a b part (followed source Kinds.END (parse_stmts source names inner at))
-      → Compiles f stmt_words a b part (parse_compound source names inner at)
+      Compiles f stmts_words a after r (followed source Kinds.END (parse_stmts source names inner at))
+      → Compiles f stmt_words a after r (parse_compound source names inner at)
   unfolding parse_compound stmt_words
-  compounded c = rw (followed_then source Kinds.END (parse_stmts source names inner at) (λ ss n. got (Stmt.compound ss) n)) (as_form Stmt.compound (λ _ l. l) c)
+  compounded c = rw (followed_then source Kinds.END (parse_stmts source names inner at) (λ ss n. got (Stmt.compound ss) n)) (as_form Stmt.compound (λ _ _ l. l) c)
 
 -- ---- The statements so far, if there are any
 
@@ -52,13 +55,9 @@ unfolding parse_stmts next with words_of
 listed_first source names stmt at = list_first source Kinds.semicolon (next stmt) none at lays.nothing
 
 -- a statement that is read is the next of the list
-pub listed_next : {f : Bases} {a b c : Emitted} {part : Part} (stmt : ℕ → Got Stmt) (i : ℕ) (done : Option Stmts) → Lays f a b (words_of done) → Compiles f stmt_words b c part (stmt i)
-    → Compiles f stmts_words a c part (next stmt done i)
+pub listed_next : {f : Bases} {a b : Emitted} {after : List ℕ} {r : Result (Part Output) Failure} (stmt : ℕ → Got Stmt) (i : ℕ) (done : Option Stmts) → Lays f a b (words_of done) → Compiles f stmt_words b after r (stmt i)
+    → Compiles f stmts_words a after r (next stmt done i)
 unfolding next with words_of stmts_words ◌⧺◌
-listed_next stmt i none l r = reads_as Stmts.one r refl refl (λ s m. lays.same (λ at. ap (stmt_words s) (add-zero at)) (lays.sequence l m)) (lays.kept_then l.kept)
-listed_next stmt i (some ss) l r =
-    reads_as (Stmts.more ss) r refl refl (λ s m. lays.same (λ at. ap (λ n. stmts_words ss at ⧺ stmt_words s n) (ends.stmts_end_lem ss at)) (lays.sequence l m)) (lays.kept_then l.kept)
-
-pub ruleset for_compound = (compounded)
-
-pub ruleset for_listed = (listed_first, listed_next)
+listed_next stmt i none l c = reads_as Stmts.one c refl (λ s o m. lays.same (λ at. ap (stmt_words s) (add-zero at)) (lays.sequence l m)) (lays.kept_image l.kept)
+listed_next stmt i (some ss) l c =
+    reads_as (Stmts.more ss) c refl (λ s o m. lays.same (λ at. ap (λ n. stmts_words ss at ⧺ stmt_words s n) (ends.stmts_end_lem ss at)) (lays.sequence l m)) (lays.kept_image l.kept)

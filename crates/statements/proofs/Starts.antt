@@ -2,13 +2,9 @@
 use Prim.Native.Nat.{ℕ, zero, suc, ◌-◌}
 use mathlib.Core.Path.{◌≡◌, refl, ap, ◌∙◌}
 use mathlib.Core.Bool.{true, false}
-use mathlib.Core.List.{List, [], ◌∷◌}
-use mathlib.Core.Logic.{⊎_elim, inl, inr}
+use mathlib.Core.List.{List}
 use native.Mathlib.Numerals.{sub-one}
 use native.Mathlib.Omega.{arith}
-use types.Run.{OneOf}
-use borrow.Author.Tests.{ne_eqb}
-use Rattle.source.specs.Kinds
 use Rattle.source.specs.declared.Token.{Token}
 use Rattle.source.specs.Tokens.{token_at, failure_at}
 use Rattle.tree.specs.Tree.{Stmt}
@@ -18,15 +14,6 @@ use Rattle.grammar.specs.Parse.Got.{got, failed}
 use Rattle.grammar.specs.Statements.{StmtStart, stmt_start, ends_statement, stmt_from, stmt_by, parse_stmt}
 use Rattle.grammar.specs.Expressions.{parse_expr}
 use Rattle.parser.proofs.Answers.{then_got, then_failed}
-
--- ---- The end of a statement
-
-module _ (t : Token) where
-  pub ends_one : OneOf (Kinds.semicolon ∷ Kinds.END ∷ Kinds.ELSE ∷ []) t.kind → true ≡ ends_statement t
-  ends_one h = ⊎_elim (λ (q : t.kind ≡ 5). rw q) (λ h. ⊎_elim (λ (q : t.kind ≡ 23). rw q) (λ (q : t.kind ≡ 33). rw q) h) h
-
-  pub ends_none : (OneOf (Kinds.semicolon ∷ Kinds.END ∷ Kinds.ELSE ∷ []) t.kind → ⊥) → false ≡ ends_statement t
-  ends_none n = rw (ne_eqb _ 5 (λ q. n (inl q)), ne_eqb _ 23 (λ q. n (inr (inl q))), ne_eqb _ 33 (λ q. n (inr (inr q))))
 
 -- ---- A statement by its first token
 
@@ -55,5 +42,3 @@ module _ (source : List ℕ) (names : Names) (at : ℕ) (t : Token) (e : t ≡ t
       unfolding parse_stmt stmt_by
       stmt_on zero z = absurd (z refl)
       stmt_on (suc left) z = rw (sub-one, ← e, q) (then_got _ started)
-
-pub ruleset for_statement = (stmt_empty, stmt_unknown, stmt_deep, stmt_on)

@@ -1,5 +1,5 @@
 -- The parts that the forms of a statement share, and what is promised of each form.
-use Rattle.std.specs.Prelude.{ℕ, ◌≡◌, List}
+use Rattle.std.specs.Prelude.{ℕ, ◌≡◌, List, Result, Ok, Err}
 use Rattle.prelude.specs.Choice.{whether, given}
 use Rattle.source.specs.Kinds
 use Rattle.source.specs.declared.Token.{Token}
@@ -14,17 +14,16 @@ use Rattle.grammar.specs.Cells.{refuse, name_as, parse_lone_cell}
 use Rattle.grammar.specs.Statements as stmts
 use Rattle.symbols.specs.Trees.{tree_id}
 use Rattle.parser.specs.declared.Part.{Part}
-use Rattle.parser.specs.Answers.{part_of}
+use Rattle.parser.specs.declared.Failure.{Failure}
+use Rattle.parser.specs.Failures.{Fails}
 use Rattle.parser.specs.Reads.{Reads}
-use Rattle.emitter.specs.declared.Context.{Context}
 use Rattle.emitter.specs.declared.Output.{Output}
-use Rattle.layout.specs.Emission.{Emitted, Bases}
 use Rattle.emitter.specs.Emitted.{emitted_by, bases_of}
-use Rattle.emitter.specs.Lays.{WordsAt, Kept, Lays}
-use Rattle.expressions.specs.declared.OutputAnswer.{OutputAnswer}
-use Rattle.expressions.specs.declared.ConditionAnswer.{ConditionAnswer}
-use Rattle.statements.specs.declared.counting.ForHeadAnswer.{ForHeadAnswer}
-use Rattle.expressions.specs.Compiles.{Does, Decides, names_at, expr_at}
+use Rattle.emitter.specs.Lays.{WordsAt, KeptImage, Lays}
+use Rattle.expressions.specs.declared.Body.{Body}
+use Rattle.expressions.specs.declared.Guarded.{Guarded}
+use Rattle.statements.specs.declared.counting.ForHead.{ForHead}
+use Rattle.expressions.specs.Compiles.{Does, Decides, source_of, names_of, expr_at}
 
 -- ---- What is parsed
 
@@ -32,10 +31,11 @@ use Rattle.expressions.specs.Compiles.{Does, Decides, names_at, expr_at}
 unfoldable pub followed : {A : Type 0} → List ℕ → ℕ → Got A → Got A
 followed source kind g = and_then g (λ t n. and_then (expect kind source n) (λ _ m. got t m))
 
--- the same of the code's answer
-unfoldable pub followed_part : List ℕ → ℕ → Part → Part
-followed_part source kind (Part.Read n) = part_of (expect kind source n)
-followed_part source kind (Part.Failed k at) = Part.Failed k at
+-- the same of the code's answers: what was read stays as it was
+abbrev pub Follows : {X : Type 0} → List ℕ → ℕ → Result (Part X) Failure → Result (Part X) Failure → Type 0
+Follows source kind (Ok p) (Ok q) = (q.value ≡ p.value) × (t : Token) × (expect kind source p.next ≡ got t q.next)
+Follows source kind (Ok p) (Err e) = Fails e (expect kind source p.next)
+Follows source kind (Err e) r = r ≡ Err e
 
 -- a part after `=`
 unfoldable pub after_equal : {A : Type 0} → List ℕ → (ℕ → Got A) → ℕ → Got A
@@ -84,61 +84,59 @@ guarded_words part at z = cond_words part.0 at z ⧺ stmt_words part.1 (cond_end
 -- ---- Contracts
 
 -- a statement
-abbrev pub Stated : Context → Output → List ℕ → List ℕ → OutputAnswer → Got Stmt → Type 0
+abbrev pub Stated : Body → Output → List ℕ → List ℕ → Result (Part Output) Failure → Got Stmt → Type 0
 Stated = Does stmt_words
 
 -- a guarded part
-abbrev pub Guards : Context → Output → List ℕ → List ℕ → ConditionAnswer → Got (Cond × Stmt) → Type 0
+abbrev pub Guards : Body → Output → List ℕ → List ℕ → Result (Part Guarded) Failure → Got (Cond × Stmt) → Type 0
 Guards = Decides guarded_words
 
 -- the definition of each form, at the levels that are left for its own expressions and for the statements in it
-module _ (source : List ℕ) (context : Context) (table : List ℕ) where
+module _ (body : Body) where
   abbrev pub stmt_at : ℕ → ℕ → Got Stmt
-  stmt_at left = stmts.parse_stmt source (names_at context table) left
+  stmt_at left = stmts.parse_stmt (source_of body) (names_of body) left
 
   abbrev pub guarded_at : ℕ → ℕ → ℕ → ℕ → Got (Cond × Stmt)
-  guarded_at word left inner at = stmts.parse_guarded source (names_at context table) (expr_at source context table left) (stmt_at inner) word at
+  guarded_at word left inner at = stmts.parse_guarded (source_of body) (names_of body) (expr_at body left) (stmt_at inner) word at
 
   abbrev pub value_at : ℕ → ℕ → Got Expr
-  value_at left at = after_equal source (expr_at source context table left) at
+  value_at left at = after_equal (source_of body) (expr_at body left) at
 
   abbrev pub load_at : ℕ → Got Cell
-  load_at at = after_equal source (parse_lone_cell source (names_at context table)) at
+  load_at at = after_equal (source_of body) (parse_lone_cell (source_of body) (names_of body)) at
 
   abbrev pub element_at : ℕ → Array → ℕ → Got Stmt
-  element_at left array at = stmts.parse_element source (names_at context table) (expr_at source context table left) array at
+  element_at left array at = stmts.parse_element (source_of body) (names_of body) (expr_at body left) array at
 
   abbrev pub head_at : ℕ → ℕ → Got Head
-  head_at left at = parse_head source (names_at context table) (expr_at source context table left) (token_at source at)
+  head_at left at = parse_head (source_of body) (names_of body) (expr_at body left) (token_at (source_of body) at)
 
   abbrev pub if_at : ℕ → ℕ → ℕ → Got Stmt
-  if_at left inner at = stmts.parse_if source (names_at context table) (expr_at source context table left) (stmt_at inner) at
+  if_at left inner at = stmts.parse_if (source_of body) (names_of body) (expr_at body left) (stmt_at inner) at
 
   abbrev pub when_at : ℕ → ℕ → ℕ → Got Stmt
-  when_at left inner at = stmts.parse_when source (names_at context table) (expr_at source context table left) (stmt_at inner) at
+  when_at left inner at = stmts.parse_when (source_of body) (names_of body) (expr_at body left) (stmt_at inner) at
 
   abbrev pub while_at : ℕ → ℕ → ℕ → Got Stmt
-  while_at left inner at = stmts.parse_while source (names_at context table) (expr_at source context table left) (stmt_at inner) at
+  while_at left inner at = stmts.parse_while (source_of body) (names_of body) (expr_at body left) (stmt_at inner) at
 
   abbrev pub for_at : ℕ → ℕ → ℕ → Got Stmt
-  for_at left inner at = stmts.parse_for source (names_at context table) (expr_at source context table left) (stmt_at inner) (token_at source at)
+  for_at left inner at = stmts.parse_for (source_of body) (names_of body) (expr_at body left) (stmt_at inner) (token_at (source_of body) at)
 
   abbrev pub stmts_at : ℕ → ℕ → Got Stmts
-  stmts_at left at = stmts.parse_stmts source (names_at context table) (stmt_at left) at
+  stmts_at left at = stmts.parse_stmts (source_of body) (names_of body) (stmt_at left) at
 
   abbrev pub outermost_at : ℕ → Got Stmts
-  outermost_at at = stmts.parse_outermost source (names_at context table) at
+  outermost_at at = stmts.parse_outermost (source_of body) (names_of body) at
 
   abbrev pub compound_at : ℕ → ℕ → Got Stmt
-  compound_at inner at = stmts.parse_compound source (names_at context table) (stmt_at inner) at
+  compound_at inner at = stmts.parse_compound (source_of body) (names_of body) (stmt_at inner) at
 
   abbrev pub form_at : ℕ → ℕ → stmts.StmtStart → ℕ → Got Stmt
-  form_at left inner start at = stmts.stmt_from source (names_at context table) (expr_at source context table left) (stmt_at inner) start at
+  form_at left inner start at = stmts.stmt_from (source_of body) (names_of body) (expr_at body left) (stmt_at inner) start at
 
--- a head, with what it counts
-abbrev pub Heads : Bases → Emitted → Emitted → Part → Id → Got Head → Type 0
-Heads f a b part counter g = Reads (λ h. Lays f a b (head_words h) × (counter ≡ counter_of h)) (Kept a b) part g
-
--- the same of a function's answer
-abbrev pub DoesHead : Context → Output → List ℕ → List ℕ → ForHeadAnswer → Got Head → Type 0
-DoesHead context output before after r g = Heads (bases_of context) (emitted_by output before) (emitted_by r.answer.output after) r.answer.part (tree_id r.id) g
+-- a head, with what it counts, of a function's answer
+abbrev pub DoesHead : Body → Output → List ℕ → List ℕ → Result (Part ForHead) Failure → Got Head → Type 0
+DoesHead body output before after r g =
+    let a = emitted_by output before in
+    Reads (λ h o. Lays (bases_of body.context) a (emitted_by o.output after) (head_words h) × (tree_id o.id ≡ counter_of h)) (KeptImage a after) r g

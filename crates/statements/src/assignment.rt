@@ -5,32 +5,28 @@ ghost use Rattle.symbols.specs.Trees.{tree_array, tree_cell};
 ghost use Rattle.expressions.specs.Compiles.{Does};
 ghost use Rattle.statements.specs.Forms.{stored_words, loaded_words, Stated, value_at, load_at, element_at};
 
-use cells::cell::{lone_cell_at, subscript_at};
-use emitter::{Context, Output, emit_cell};
-use expressions::{OutputAnswer, expression};
+use emitter::{Output, emit_cell};
+use expressions::Body;
 use instruction::opcode;
-use parser::{Part, expect};
+use parser::{Part, Read, expect};
 use source::kind;
 use symbols::{Array, Cell, Id, Operand};
 
 // `=` expression.
 pub fn assigned(
-    source: &[u8],
-    table: &[u16],
+    body: &Body<'_>,
     image: &mut [u16],
-    context: Context,
+    output: Output,
     at: usize,
     left: usize,
-    output: Output,
-) -> OutputAnswer
-    ensures { Does expr_words context output image.old image.new result
-        (value_at source.now context table.now left at) }
+) -> Read<Output>
+    ensures { Does expr_words body.now output image.old image.new result (value_at body.now left at) }
 {
-    let part = expect(source, kind::EQUAL, at);
-    let Part::Read { next } = part else {
-        return OutputAnswer { part, output };
+    let equal = expect(body.reader.source, kind::EQUAL, at);
+    let Ok(Part { value: _, next }) = equal else {
+        return Err(equal.unwrap_err());
     };
-    expression(source, table, image, context, next, left, output)
+    body.expression(image, output, next, left)
 }
 
 // An integer as a cell.
@@ -44,80 +40,70 @@ pub fn plain(id: Id) -> Cell
 
 // `=` expression, stored in a cell (W12).
 pub fn store(
-    source: &[u8],
-    table: &[u16],
+    body: &Body<'_>,
     image: &mut [u16],
-    context: Context,
+    output: Output,
     cell: Cell,
     at: usize,
     left: usize,
-    output: Output,
-) -> OutputAnswer
-    ensures { Does (stored_words (tree_cell cell)) context output image.old image.new result
-        (value_at source.now context table.now left at) }
+) -> Read<Output>
+    ensures { Does (stored_words (tree_cell cell)) body.now output image.old image.new result (value_at body.now left at) }
 {
-    let value = assigned(source, table, image, context, at, left, output);
-    let part = value.part;
-    let Part::Read { next: _ } = part else {
-        return value;
+    let read = assigned(body, image, output, at, left);
+    let Ok(Part { value, next }) = read else {
+        return read;
     };
-    let after_value = value.output;
-    let after_store = emit_cell(image, context, after_value, opcode::STA, cell);
-    OutputAnswer {
-        part,
-        output: after_store,
-    }
+    Ok(Part {
+        value: emit_cell(image, body.context, value, opcode::STA, cell),
+        next,
+    })
 }
 
 // An array element's subscript, then `=` expression.
 pub fn element(
-    source: &[u8],
-    table: &[u16],
+    body: &Body<'_>,
     image: &mut [u16],
-    context: Context,
+    output: Output,
     array: Array,
     at: usize,
     left: usize,
-    output: Output,
-) -> OutputAnswer
-    ensures { Stated context output image.old image.new result
-        (element_at source.now context table.now left (tree_array array) at) }
+) -> Read<Output>
+    ensures { Stated body.now output image.old image.new result (element_at body.now left (tree_array array) at) }
 {
-    let found = subscript_at(source, table, context.names, at);
-    let part = found.part;
-    let Part::Read { next } = part else {
-        return OutputAnswer { part, output };
+    let found = body.reader.subscript_at(at);
+    let Ok(
+        Part {
+            value: subscript,
+            next,
+        },
+    ) = found
+    else {
+        return Err(found.unwrap_err());
     };
-    let subscript = found.subscript;
-    let cell = Cell::Item { array, subscript };
-    store(source, table, image, context, cell, next, left, output)
+    store(
+        body,
+        image,
+        output,
+        Cell::Item { array, subscript },
+        next,
+        left,
+    )
 }
 
 // `=` cell, loaded to X (W12).
-pub fn set_x(
-    source: &[u8],
-    table: &[u16],
-    image: &mut [u16],
-    context: Context,
-    at: usize,
-    output: Output,
-) -> OutputAnswer
-    ensures { Does loaded_words context output image.old image.new result
-        (load_at source.now context table.now at) }
+pub fn set_x(body: &Body<'_>, image: &mut [u16], output: Output, at: usize) -> Read<Output>
+    ensures { Does loaded_words body.now output image.old image.new result (load_at body.now at) }
 {
-    let part = expect(source, kind::EQUAL, at);
-    let Part::Read { next } = part else {
-        return OutputAnswer { part, output };
+    let equal = expect(body.reader.source, kind::EQUAL, at);
+    let Ok(Part { value: _, next }) = equal else {
+        return Err(equal.unwrap_err());
     };
-    let found = lone_cell_at(source, table, context.names, next);
-    let part = found.part;
-    let Part::Read { next: _ } = part else {
-        return OutputAnswer { part, output };
+    let found = body.reader.lone_cell_at(next);
+    let Ok(Part { value: cell, next }) = found else {
+        return Err(found.unwrap_err());
     };
-    let cell = found.cell;
-    let after_load = emit_cell(image, context, output, opcode::LDX, cell);
-    OutputAnswer {
-        part,
-        output: after_load,
-    }
+    Ok(Part {
+        value: emit_cell(image, body.context, output, opcode::LDX, cell),
+        next,
+    })
 }

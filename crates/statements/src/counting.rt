@@ -2,45 +2,62 @@
 ghost use Rattle.statements.specs.Forms.{head_at, DoesHead};
 
 use crate::assignment::{plain, set_x, store};
-use emitter::{Context, Output};
-use expressions::OutputAnswer;
-use parser::refuse_at;
+use emitter::Output;
+use expressions::Body;
+use parser::{Part, Read, refuse_at};
 use source::{kind, token_at};
-use symbols::lookup::lookup_at;
 use symbols::{Id, Symbol};
 
-// What stands before a `.DO`: its answer, and the integer that is counted.
-#[derive(Drop)]
-pub struct ForHeadAnswer {
-    pub answer: OutputAnswer,
+// What stands before a `.DO`: what it emits, and the integer that is counted.
+#[derive(Clone, Copy, Debug)]
+pub struct ForHead {
+    pub output: Output,
     pub id: Id,
 }
 
 // What stands between `.FOR` and `.DO`.
 pub fn for_head(
-    source: &[u8],
-    table: &[u16],
+    body: &Body<'_>,
     image: &mut [u16],
-    context: Context,
+    output: Output,
     at: usize,
     left: usize,
-    output: Output,
-) -> ForHeadAnswer
-    ensures { DoesHead context output image.old image.new result
-        (head_at source.now context table.now left at) }
+) -> Read<ForHead>
+    ensures { DoesHead body.now output image.old image.new result (head_at body.now left at) }
 {
-    let t = token_at(source, at);
-    let next = t.next;
+    let t = token_at(body.reader.source, at);
     if t.kind == kind::HASH {
-        let answer = set_x(source, table, image, context, next, output);
-        return ForHeadAnswer { answer, id: Id::X };
+        let read = set_x(body, image, output, t.next);
+        let Ok(
+            Part {
+                value: output,
+                next,
+            },
+        ) = read
+        else {
+            return Err(read.unwrap_err());
+        };
+        return Ok(Part {
+            value: ForHead { output, id: Id::X },
+            next,
+        });
     }
-    let symbol = lookup_at(source, table, context.names, at);
+    let symbol = body.reader.names.lookup_at(body.reader.source, at);
     let Symbol::Integer { id } = symbol else {
-        let part = refuse_at(source, at);
-        let answer = OutputAnswer { part, output };
-        return ForHeadAnswer { answer, id: Id::X };
+        return Err(refuse_at(body.reader.source, at));
     };
-    let answer = store(source, table, image, context, plain(id), next, left, output);
-    ForHeadAnswer { answer, id }
+    let read = store(body, image, output, plain(id), t.next, left);
+    let Ok(
+        Part {
+            value: output,
+            next,
+        },
+    ) = read
+    else {
+        return Err(read.unwrap_err());
+    };
+    Ok(Part {
+        value: ForHead { output, id },
+        next,
+    })
 }

@@ -1,4 +1,4 @@
-// Statements: parsed and emitted in one go. Where a part fails, its failure is answered at once; of what is emitted then, `Kept` holds.
+// Statements: parsed and emitted in one go. Where a part fails, its failure is answered at once; of what is emitted then, `KeptImage` holds.
 #![tactic(auto)]
 
 ghost use Rattle.std.specs.Prelude.{◌≡◌};
@@ -6,18 +6,17 @@ ghost use Rattle.layout.specs.Words.{stmts_words};
 ghost use Rattle.grammar.specs.Statements.{ends_statement};
 ghost use Rattle.cells.specs.Answers.{tree_statement_start};
 ghost use Rattle.expressions.specs.Compiles.{Does};
-ghost use Rattle.statements.specs.Forms.{followed_part, Stated, Guards};
+ghost use Rattle.statements.specs.Forms.{Follows, Stated, Guards};
 ghost use Rattle.statements.specs.Forms.{stmt_at, guarded_at, if_at, when_at, while_at, for_at, stmts_at, outermost_at, compound_at, form_at};
 
 use crate::assignment::{assigned, element, plain, set_x, store};
 use crate::counting::for_head;
 use cells::StatementStart as Start;
-use cells::starts::statement_start_at;
-use emitter::{Context, Output, emit_jump, emit_memory, fill_jump};
+use emitter::{Output, emit_jump, emit_memory, fill_jump};
 use expressions::relation::emit_hole;
-use expressions::{ConditionAnswer, OutputAnswer, call, condition};
+use expressions::{Body, Guarded};
 use instruction::opcode;
-use parser::{Part, expect, fail_at, failures};
+use parser::{Cause, Part, Read, expect, fail_at};
 use source::{Token, kind, token_at};
 use symbols::Operand;
 
@@ -28,406 +27,270 @@ mod counting;
 const LEVELS: usize = 33;
 
 // A part with the token of a kind after it.
-#[tactic(auto, unfolding(crate::specs::Forms::followed_part))]
-fn followed_by(source: &[u8], part: Part, kind: u16) -> Part
-    ensures { result ≡ followed_part source.now kind part }
+fn followed_by<T: Copy>(source: &[u8], read: Read<T>, kind: u16) -> Read<T>
+    ensures { Follows source.now kind read result }
 {
-    let Part::Read { next } = part else {
-        return part;
-    };
-    expect(source, kind, next)
+    let Part { value, next } = read?;
+    let Part { value: _, next } = expect(source, kind, next)?;
+    Ok(Part { value, next })
 }
 
 // Whether a token may follow a statement: one before it is empty.
 fn ends_statement(t: Token) -> bool
     ensures { result ≡ ends_statement t }
 {
-    let kind = t.kind;
-    match kind {
-        kind::SEMICOLON | kind::END | kind::ELSE => true,
-        _ => false,
-    }
+    matches!(t.kind, kind::SEMICOLON | kind::END | kind::ELSE)
 }
 
 // A condition, the word after it, and the statement that it guards; the jump where it fails is not filled in yet.
 // `left` is how many levels are left for this statement, its own among them; `inner` for those in it.
 #[cycle(parts)]
-#[tactic(auto, using(parser::proofs::Answers::then_got, parser::proofs::ReadLaws::came, parser::proofs::ReadLaws::pass, emitter::proofs::Lays::kept_then, crate::proofs::Branches::for_guarded))]
 fn guarded(
-    source: &[u8],
-    table: &[u16],
+    body: &Body<'_>,
     image: &mut [u16],
-    context: Context,
+    output: Output,
     word: u16,
     at: usize,
     left: usize,
     inner: usize,
-    output: Output,
-) -> ConditionAnswer
-    ensures { Guards context output image.old image.new result
-        (guarded_at source.now context table.now word left inner at) }
+) -> Read<Guarded>
+    ensures { Guards body.now output image.old image.new result (guarded_at body.now word left inner at) }
 {
-    let test = condition(source, table, image, context, at, left, output);
-    let tested = test.part;
-    let after_test = test.output;
-    let part = followed_by(source, tested, word);
-    let Part::Read { next } = part else {
-        return ConditionAnswer {
-            part,
-            output: after_test,
-            hole: 0,
-        };
+    let condition = body.condition(image, output, at, left);
+    let test = followed_by(body.reader.source, condition, word);
+    let Ok(
+        Part {
+            value: tested,
+            next,
+        },
+    ) = test
+    else {
+        return test;
     };
-    let body = statement(source, table, image, context, next, inner, after_test);
-    let part = body.part;
-    let after_body = body.output;
-    let Part::Read { next: _ } = part else {
-        return ConditionAnswer {
-            part,
-            output: after_body,
-            hole: 0,
-        };
+    let read = statement(body, image, tested.output, next, inner);
+    let Ok(Part { value, next }) = read else {
+        return Err(read.unwrap_err());
     };
-    ConditionAnswer {
-        part,
-        output: after_body,
-        hole: test.hole,
-    }
+    Ok(Part {
+        value: Guarded {
+            output: value,
+            hole: tested.hole,
+        },
+        next,
+    })
 }
 
 // An `.IF` that is a statement (S4, W10).
 #[cycle(parts)]
-#[tactic(auto, using(expressions::proofs::Leaves::hole_later, parser::proofs::Answers::then_got, parser::proofs::ReadLaws::came, parser::proofs::ReadLaws::pass, emitter::proofs::Lays::kept_then, crate::proofs::Branches::for_if_statement))]
 fn if_statement(
-    source: &[u8],
-    table: &[u16],
+    body: &Body<'_>,
     image: &mut [u16],
-    context: Context,
+    output: Output,
     at: usize,
     left: usize,
     inner: usize,
-    output: Output,
-) -> OutputAnswer
-    ensures { Stated context output image.old image.new result
-        (if_at source.now context table.now left inner at) }
+) -> Read<Output>
+    ensures { Stated body.now output image.old image.new result (if_at body.now left inner at) }
 {
-    let first = guarded(
-        source,
-        table,
-        image,
-        context,
-        kind::THEN,
-        at,
-        left,
-        inner,
-        output,
-    );
-    let done = first.part;
-    let after_first = first.output;
-    let part = followed_by(source, done, kind::ELSE);
-    let Part::Read { next } = part else {
-        return OutputAnswer {
-            part,
-            output: after_first,
-        };
+    let guarded = guarded(body, image, output, kind::THEN, at, left, inner);
+    let first = followed_by(body.reader.source, guarded, kind::ELSE);
+    let Ok(Part { value: one, next }) = first else {
+        return Err(first.unwrap_err());
     };
-    let end = emit_hole(image, after_first);
-    let after_jump = end.output;
-    fill_jump(image, first.hole, after_jump.next);
-    let second = statement(source, table, image, context, next, inner, after_jump);
-    let part = second.part;
-    let Part::Read { next: _ } = part else {
+    let end = emit_hole(image, one.output);
+    fill_jump(image, one.hole, end.output.next);
+    let second = statement(body, image, end.output, next, inner);
+    let Ok(Part { value, next }) = second else {
         return second;
     };
-    let after_second = second.output;
-    fill_jump(image, end.hole, after_second.next);
-    second
+    fill_jump(image, end.hole, value.next);
+    Ok(Part { value, next })
 }
 
 // `.WHEN` condition `.THEN` statement (W11).
 #[cycle(parts)]
-#[tactic(auto, using(parser::proofs::Answers::then_got, parser::proofs::ReadLaws::came, parser::proofs::ReadLaws::pass, crate::proofs::Branches::for_when_statement))]
 fn when_statement(
-    source: &[u8],
-    table: &[u16],
+    body: &Body<'_>,
     image: &mut [u16],
-    context: Context,
+    output: Output,
     at: usize,
     left: usize,
     inner: usize,
-    output: Output,
-) -> OutputAnswer
-    ensures { Stated context output image.old image.new result
-        (when_at source.now context table.now left inner at) }
+) -> Read<Output>
+    ensures { Stated body.now output image.old image.new result (when_at body.now left inner at) }
 {
-    let all = guarded(
-        source,
-        table,
-        image,
-        context,
-        kind::THEN,
-        at,
-        left,
-        inner,
-        output,
-    );
-    let part = all.part;
-    let after_body = all.output;
-    let Part::Read { next: _ } = part else {
-        return OutputAnswer {
-            part,
-            output: after_body,
-        };
+    let all = guarded(body, image, output, kind::THEN, at, left, inner);
+    let Ok(Part { value, next }) = all else {
+        return Err(all.unwrap_err());
     };
-    fill_jump(image, all.hole, after_body.next);
-    OutputAnswer {
-        part,
-        output: after_body,
-    }
+    fill_jump(image, value.hole, value.output.next);
+    Ok(Part {
+        value: value.output,
+        next,
+    })
 }
 
 // `.WHILE` condition `.DO` statement (W11).
 #[cycle(parts)]
-#[tactic(auto, using(parser::proofs::Answers::then_got, parser::proofs::ReadLaws::came, parser::proofs::ReadLaws::pass, crate::proofs::Branches::for_while_statement))]
 fn while_statement(
-    source: &[u8],
-    table: &[u16],
+    body: &Body<'_>,
     image: &mut [u16],
-    context: Context,
+    output: Output,
     at: usize,
     left: usize,
     inner: usize,
-    output: Output,
-) -> OutputAnswer
-    ensures { Stated context output image.old image.new result
-        (while_at source.now context table.now left inner at) }
+) -> Read<Output>
+    ensures { Stated body.now output image.old image.new result (while_at body.now left inner at) }
 {
-    let start = output.next;
-    let all = guarded(
-        source,
-        table,
-        image,
-        context,
-        kind::DO,
-        at,
-        left,
-        inner,
-        output,
-    );
-    let part = all.part;
-    let after_body = all.output;
-    let Part::Read { next: _ } = part else {
-        return OutputAnswer {
-            part,
-            output: after_body,
-        };
+    let all = guarded(body, image, output, kind::DO, at, left, inner);
+    let Ok(Part { value, next }) = all else {
+        return Err(all.unwrap_err());
     };
-    let after_jump = emit_jump(image, after_body, start);
-    fill_jump(image, all.hole, after_jump.next);
-    OutputAnswer {
-        part,
-        output: after_jump,
-    }
+    let after_jump = emit_jump(image, value.output, output.next);
+    fill_jump(image, value.hole, after_jump.next);
+    Ok(Part {
+        value: after_jump,
+        next,
+    })
 }
 
 // `.FOR` integer or `#` = its first value, `.DO` statement (W13).
 #[cycle(parts)]
-#[tactic(auto, using(parser::proofs::Answers::then_got, parser::proofs::ReadLaws::came, parser::proofs::ReadLaws::pass, emitter::proofs::Lays::kept_then, crate::proofs::Forms::for_for_statement, crate::proofs::CountingLaws::for_for_statement))]
 fn for_statement(
-    source: &[u8],
-    table: &[u16],
+    body: &Body<'_>,
     image: &mut [u16],
-    context: Context,
+    output: Output,
     at: usize,
     left: usize,
     inner: usize,
-    output: Output,
-) -> OutputAnswer
-    ensures { Stated context output image.old image.new result
-        (for_at source.now context table.now left inner at) }
+) -> Read<Output>
+    ensures { Stated body.now output image.old image.new result (for_at body.now left inner at) }
 {
-    let head = for_head(source, table, image, context, at, left, output);
-    let first = head.answer;
-    let counted = first.part;
-    let after_head = first.output;
-    let id = head.id;
-    let part = followed_by(source, counted, kind::DO);
-    let Part::Read { next } = part else {
-        return OutputAnswer {
-            part,
-            output: after_head,
-        };
+    let counted = for_head(body, image, output, at, left);
+    let head = followed_by(body.reader.source, counted, kind::DO);
+    let Ok(Part { value: start, next }) = head else {
+        return Err(head.unwrap_err());
     };
-    let start = after_head.next;
-    let body = statement(source, table, image, context, next, inner, after_head);
-    let part = body.part;
-    let Part::Read { next: _ } = part else {
-        return body;
+    let read = statement(body, image, start.output, next, inner);
+    let Ok(Part { value, next }) = read else {
+        return read;
     };
-    let after_body = body.output;
     let after_count = emit_memory(
         image,
-        context,
-        after_body,
+        body.context,
+        value,
         opcode::IRS,
-        Operand::Named { id },
+        Operand::Named { id: start.id },
     );
-    let after_jump = emit_jump(image, after_count, start);
-    OutputAnswer {
-        part,
-        output: after_jump,
-    }
+    Ok(Part {
+        value: emit_jump(image, after_count, start.output.next),
+        next,
+    })
 }
 
 // Statements of a level, separated by `;`. Each `;` takes a byte, so the source has as many bytes as there are turns.
+// No function shared with the other lists: its closure would hold the loan of the image.
 #[cycle(parts)]
-#[tactic(auto, using(parser::proofs::ReadLaws::list_failed, parser::proofs::ReadLaws::list_zero, parser::proofs::ReadLaws::list_last, parser::proofs::ReadLaws::sequel_next, crate::proofs::Lists::for_listed))]
 fn listed(
-    source: &[u8],
-    table: &[u16],
+    body: &Body<'_>,
     image: &mut [u16],
-    context: Context,
+    output: Output,
     at: usize,
     left: usize,
-    output: Output,
-) -> OutputAnswer
-    ensures { Does stmts_words context output image.old image.new result
-        (stmts_at source.now context table.now left at) }
+) -> Read<Output>
+    ensures { Does stmts_words body.now output image.old image.new result (stmts_at body.now left at) }
 {
-    let mut turns = source.len();
     let mut i = at;
     let mut so_far = output;
-    loop {
-        let one = statement(source, table, image, context, i, left, so_far);
-        let part = one.part;
-        let Part::Read { next } = part else {
+    for _ in 0..body.reader.source.len() {
+        let one = statement(body, image, so_far, i, left);
+        let Ok(Part { value, next }) = one else {
             return one;
         };
-        if turns == 0 {
-            return one;
-        }
-        let t = token_at(source, next);
+        let t = token_at(body.reader.source, next);
         if t.kind != kind::SEMICOLON {
             return one;
         }
-        let after_one = one.output;
-        so_far = after_one;
+        so_far = value;
         i = t.next;
-        turns -= 1;
     }
+    statement(body, image, so_far, i, left)
 }
 
 // `.BEGIN` statements `.END`.
 #[cycle(parts)]
-#[tactic(auto, using(crate::proofs::Forms::for_compound, crate::proofs::Lists::for_compound))]
 fn compound(
-    source: &[u8],
-    table: &[u16],
+    body: &Body<'_>,
     image: &mut [u16],
-    context: Context,
+    output: Output,
     at: usize,
     inner: usize,
-    output: Output,
-) -> OutputAnswer
-    ensures { Stated context output image.old image.new result
-        (compound_at source.now context table.now inner at) }
+) -> Read<Output>
+    ensures { Stated body.now output image.old image.new result (compound_at body.now inner at) }
 {
-    let all = listed(source, table, image, context, at, inner, output);
-    let done = all.part;
-    let after_statements = all.output;
-    let part = followed_by(source, done, kind::END);
-    OutputAnswer {
-        part,
-        output: after_statements,
-    }
+    let all = listed(body, image, output, at, inner);
+    followed_by(body.reader.source, all, kind::END)
 }
 
 // A statement from after its first token.
 #[cycle(parts)]
-#[tactic(auto, using(crate::proofs::AssignmentLaws::for_form))]
 fn form(
-    source: &[u8],
-    table: &[u16],
+    body: &Body<'_>,
     image: &mut [u16],
-    context: Context,
+    output: Output,
     start: Start,
     at: usize,
     left: usize,
     inner: usize,
-    output: Output,
-) -> OutputAnswer
-    ensures { Stated context output image.old image.new result
-        (form_at source.now context table.now left inner (tree_statement_start start) at) }
+) -> Read<Output>
+    ensures { Stated body.now output image.old image.new result (form_at body.now left inner (tree_statement_start start) at) }
 {
     match start {
-        Start::Integer { id } => store(source, table, image, context, plain(id), at, left, output),
-        Start::Element { array } => element(source, table, image, context, array, at, left, output),
-        Start::Accumulator => assigned(source, table, image, context, at, left, output),
-        Start::Hash => set_x(source, table, image, context, at, output),
-        Start::If => if_statement(source, table, image, context, at, left, inner, output),
-        Start::When => when_statement(source, table, image, context, at, left, inner, output),
-        Start::While => while_statement(source, table, image, context, at, left, inner, output),
-        Start::For => for_statement(source, table, image, context, at, left, inner, output),
-        Start::Compound => compound(source, table, image, context, at, inner, output),
-        Start::Call { number } => call(source, table, image, context, number, at, left, output),
+        Start::Integer { id } => store(body, image, output, plain(id), at, left),
+        Start::Element { array } => element(body, image, output, array, at, left),
+        Start::Accumulator => assigned(body, image, output, at, left),
+        Start::Hash => set_x(body, image, output, at),
+        Start::If => if_statement(body, image, output, at, left, inner),
+        Start::When => when_statement(body, image, output, at, left, inner),
+        Start::While => while_statement(body, image, output, at, left, inner),
+        Start::For => for_statement(body, image, output, at, left, inner),
+        Start::Compound => compound(body, image, output, at, inner),
+        Start::Call { number } => body.call(image, output, number, at, left),
     }
 }
 
 // A statement, with `left` levels of nesting left, its own among them; an empty one has none of its own.
 #[cycle(parts)]
-#[tactic(auto, using(parser::proofs::Answers::got_read, parser::proofs::Answers::got_failed, parser::proofs::Answers::got_with_lem, parser::proofs::ReadLaws::reads_on, emitter::proofs::Lays::kept_here, emitter::proofs::Lays::nothing, crate::proofs::Starts::for_statement))]
 fn statement(
-    source: &[u8],
-    table: &[u16],
+    body: &Body<'_>,
     image: &mut [u16],
-    context: Context,
+    output: Output,
     at: usize,
     left: usize,
-    output: Output,
-) -> OutputAnswer
-    ensures { Stated context output image.old image.new result
-        (stmt_at source.now context table.now left at) }
+) -> Read<Output>
+    ensures { Stated body.now output image.old image.new result (stmt_at body.now left at) }
 {
-    let t = token_at(source, at);
+    let t = token_at(body.reader.source, at);
     if ends_statement(t) {
-        let part = Part::Read { next: at };
-        return OutputAnswer { part, output };
+        return Ok(Part {
+            value: output,
+            next: at,
+        });
     }
-    let found = statement_start_at(source, table, context.names, at);
-    let part = found.part;
-    let Part::Read { next } = part else {
-        return OutputAnswer { part, output };
+    let found = body.reader.statement_start_at(at);
+    let Ok(Part { value: start, next }) = found else {
+        return Err(found.unwrap_err());
     };
     if left == 0 {
-        let part = fail_at(t, failures::TOO_DEEP);
-        return OutputAnswer { part, output };
+        return Err(fail_at(t, Cause::TooDeep));
     }
-    let start = found.start;
-    form(
-        source,
-        table,
-        image,
-        context,
-        start,
-        next,
-        left,
-        left - 1,
-        output,
-    )
+    form(body, image, output, start, next, left, left - 1)
 }
 
-// The outermost statements.
+/// The outermost statements (S1), parsed and emitted; 33 levels of nesting (S11).
 #[tactic(auto, unfolding(grammar::specs::Statements::parse_outermost))]
-pub fn statements(
-    source: &[u8],
-    table: &[u16],
-    image: &mut [u16],
-    context: Context,
-    at: usize,
-    output: Output,
-) -> OutputAnswer
-    ensures { Does stmts_words context output image.old image.new result
-        (outermost_at source.now context table.now at) }
+pub fn statements(body: &Body<'_>, image: &mut [u16], output: Output, at: usize) -> Read<Output>
+    ensures { Does stmts_words body.now output image.old image.new result (outermost_at body.now at) }
 {
-    listed(source, table, image, context, at, LEVELS, output)
+    listed(body, image, output, at, LEVELS)
 }

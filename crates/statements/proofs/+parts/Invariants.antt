@@ -1,9 +1,10 @@
 use mathlib.Core.Path.{◌≡◌}
 use lib.ListN.{length}
 use Rattle.emitter.specs.Emitted.{emitted_by, bases_of}
+use Rattle.expressions.specs.Compiles.{source_of}
 use Rattle.statements.specs.Forms.{stmt_at, stmts_at}
 use Rattle.statements.proofs.Lists.{Listed}
-use Prim.Native.Nat.{◌+◌, ◌*◌}
+use Prim.Native.Nat.{◌+◌, ◌*◌, ◌-◌}
 use Rattle.statements.proofs.+parts.Given as goal
 
 abbrev pub decreases-compound : goal.decreases-compound
@@ -33,8 +34,5 @@ decreases-when_statement l = 4 * l.inner + 2
 abbrev pub decreases-while_statement : goal.decreases-while_statement
 decreases-while_statement l = 4 * l.inner + 2
 
-abbrev pub invariant-listed-loop-next : goal.invariant-listed-loop-next
-invariant-listed-loop-next l = (length l.image ≡ length l.initial.image) × Listed (bases_of l.context) (emitted_by l.initial.so_far l.initial.image) (emitted_by l.so_far l.image) l.source (stmt_at l.source l.context l.table l.left) (stmts_at l.source l.context l.table l.left l.at) l.i l.turns
-
-abbrev pub decreases-listed-loop-next : goal.decreases-listed-loop-next
-decreases-listed-loop-next l = l.turns
+abbrev pub invariant-listed-loop : goal.invariant-listed-loop
+invariant-listed-loop l = (length l.image ≡ length l.initial.image) × Listed (bases_of l.body.context) (emitted_by l.initial.so_far l.initial.image) (emitted_by l.so_far l.image) (source_of l.body) (stmt_at l.body l.left) (stmts_at l.body l.left l.at) l.i (l.end - l.counter)
