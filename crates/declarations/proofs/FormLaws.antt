@@ -254,10 +254,10 @@ module _ (source : List ℕ) (checked : Bool) (ds : List Declaration) (at : ℕ)
   declaration_some h = rw (← e) (token_some source checked ds t h)
 
 -- with the allocation that the code has
-pub declaration_next : (source : List ℕ) (checked : Bool) (u : Token) {plan : SectorEnds} {s s' : code.Allocation} {t t' t'' i i' i'' : List ℕ} {done : List Declaration} {r : Answer code.Allocation} → allocation_of s t ≡ start → Declared (end_of plan) s t i s' t' i' done
+pub declaration_next : (source : List ℕ) (checked : Bool) (u : Token) (plan : SectorEnds) {s s' : code.Allocation} {t t' t'' i i' i'' : List ℕ} {done : List Declaration} {r : Answer code.Allocation} → allocation_of s t ≡ start → Declared (end_of plan) s t i s' t' i' done
     → Allocates s' t' i' plan r t'' i'' (declaration_in source checked (allocation_of s' t') u) → Allocates s t i plan r t'' i'' (mapped (λ new. done ++ new) (declaration_in source checked (allocated done) u))
 unfolding allocated
-declaration_next source checked u {done = done} e p r =
+declaration_next source checked u plan {done = done} e p r =
     reads_as (λ new. done ++ new) r (ap (λ st. mapped (λ new. done ++ new) (declaration_in source checked st u)) (sym (p.allocation ∙ ap (λ x. foldl allocate x done) e))) (λ new x d. more_declared p d) (λ w. w)
 
 keyword_none : {kind : ℕ} → (kind ≡ 24 → ⊥) → (kind ≡ 25 → ⊥) → (kind ≡ 26 → ⊥) → none ≡ keyword_of kind

@@ -5,9 +5,8 @@ mod bodies;
 mod procedures;
 pub mod program;
 
-pub use storage::{Allocation, SectorEnds, with_end};
-
 use emitter::Output;
+pub use storage::{Allocation, SectorEnds, with_end};
 
 /// What a program comes to: whether its subscripts are tested, the allocation after its declarations, and what is emitted at its end.
 #[derive(Clone, Copy, Debug, PartialEq, Eq)]

@@ -163,10 +163,7 @@ fn checked_at(source: &[u8], at: usize) -> Read<bool>
     let Ok(Part { value: _, next }) = end else {
         return Err(end.unwrap_err());
     };
-    Ok(Part {
-        value: true,
-        next,
-    })
+    Ok(Part { value: true, next })
 }
 
 // `.BEGIN`, and whether subscripts are tested.
@@ -182,12 +179,7 @@ fn opening(source: &[u8]) -> Read<bool>
 }
 
 // The opening, declarations, the main body.
-fn whole(
-    source: &[u8],
-    table: &mut [u16],
-    image: &mut [u16],
-    plan: SectorEnds,
-) -> Read<Reading>
+fn whole(source: &[u8], table: &mut [u16], image: &mut [u16], plan: SectorEnds) -> Read<Reading>
     requires { table_words ≤ length table.old }
     ensures { CompilesProgram plan image.old result table.new image.new (program_in source.now) }
 {
