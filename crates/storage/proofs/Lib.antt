@@ -1,0 +1,11 @@
+-- Laws of results, names, items, limits, allocation and each form of declaration.
+pub mod ParseLaws
+pub mod NameLaws
+pub mod ScopeLaws
+pub mod SectorLaws
+pub mod AllocationLaws
+pub mod LimitLaws
+pub mod ListLaws
+pub mod GlobalLaws
+pub mod ArrayLaws
+pub mod FrameLaws
