@@ -20,7 +20,10 @@ use Rattle.machine.specs.declared.Machine.{Machine}
 use Rattle.machine.specs.State.{state}
 use Rattle.turns.specs.declared.Turned.{Turned}
 use Rattle.turns.specs.Turns.{start_machine, turns_def, Answers}
-use Rattle.digits.specs.Wrote.{Wrote}
+use Rattle.text.specs.Wrote.{largest, Wrote}
+use Rattle.text.specs.Adds.{Adds}
+use Rattle.text.specs.declared.Text.{Text}
+use Rattle.text.proofs.Laws.{stands}
 use Rattle.failure_report.specs.Failure.{failure_text}
 use Rattle.compiler.specs.declared.Answer.{Answer}
 use Rattle.compiler.specs.Compile.{scratch_words, result_on, answer_of, image_after}
@@ -90,5 +93,9 @@ module _ (source image scratch out : List ℕ) (turns : ℕ) (switches : Switche
       → Wrote out out' 0 r (failure_text source number at) → Wrote out out' 0 r (shown_of source Res turns switches) × (image' ≡ image_shown Res turns switches image)
   unfolding shown_of image_shown image_after
   failure_shown q a laid wrote = let is = failed_is Res (sym a ∙ q) in (rw is wrote, rw is (rw is at laid))
+
+-- in the buffer that was lent, from its start
+pub in_buffer : {a b : Text} {out out' t : List ℕ} → a.len ≡ 0 → a.out.now ≡ out → length out ≤ largest → out' ≡ b.out.now → Adds a b t → Wrote out out' 0 b.len t
+in_buffer {a} {b} {t = t} z k l o p = rw o (rw (k, z) at (stands a b t (omega (arith, z)) (let m = ap length k in omega (arith, m, l)) p))
 
 pub ruleset for_show = (accepted_is, long_enough, run_shown, failure_shown)

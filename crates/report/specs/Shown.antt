@@ -2,7 +2,9 @@
 use Rattle.std.specs.Prelude.{ℕ, ◌*◌, ◌≤◌, ◌≡◌, Bool, true, false, not, ◌&&◌, List, ◌++◌, eqb, length, get_or, replicate}
 use Rattle.prelude.specs.Choice.{whether}
 use Rattle.digits.specs.Digits.{decimal, signed, newline}
-use Rattle.digits.specs.Wrote.{Wrote}
+use Rattle.text.specs.Wrote.{Wrote}
+use Rattle.text.specs.Adds.{Adds}
+use Rattle.text.specs.declared.Text.{Text}
 use Rattle.prelude.specs.Text.{bytes}
 use Rattle.effect.specs.declared.Registers.{Registers}
 use Rattle.effect.specs.declared.Switches.{Switches}
@@ -68,7 +70,11 @@ pub record ProgramRead (source : List ℕ) (r : ProgramFacts) (table : List ℕ)
   pub checked : (p : Program) (n : ℕ) → program_in source ≡ Got.got p n → r.checked ≡ p.checked
   pub end : (p : Program) (n : ℕ) → program_in source ≡ Got.got p n → r.end ≡ (finished p).next
 
--- the program that a source is parsed as, shown after its turns
+-- the program that a source is parsed as, added as it is shown after its turns
+abbrev pub AddsRun : List ℕ → Turned → List ℕ → Text → Text → Type 0
+AddsRun source t memory before after = (p : Program) (n : ℕ) → program_in source ≡ Got.got p n → Adds before after (run_text p t memory)
+
+-- and as it stands in the buffer
 abbrev pub ShowsRun : List ℕ → Turned → List ℕ → List ℕ → ℕ → List ℕ → Type 0
 ShowsRun source t memory out r out' = (p : Program) (n : ℕ) → program_in source ≡ Got.got p n → Wrote out out' 0 r (run_text p t memory)
 

@@ -7,6 +7,7 @@ use compiler::Answer;
 use effect::Switches;
 use failure_report::put_failure;
 use run::put_run;
+use text::Text;
 use turns::{run_turns, start};
 
 mod globals;
@@ -25,6 +26,7 @@ pub fn show(
     ensures { Shows source.now turns switches image.old scratch.old out.old
         result image.new scratch.new out.new }
 {
+    let mut text = Text::new(out);
     let answer = compiler::compile(source, &mut *image, &mut *scratch);
     match answer {
         Answer::Accepted {
@@ -34,10 +36,13 @@ pub fn show(
         } => {
             let first = start(entry, switches);
             let ran = run_turns(&mut *image, first, turns);
-            let size = put_run(source, ran, image, &mut *scratch, out);
+            put_run(&mut text, source, ran, image, &mut *scratch);
             compiler::clear(&mut *scratch);
-            size
+            text.len
         }
-        Answer::Failed { number, at } => put_failure(out, source, number, at),
+        Answer::Failed { number, at } => {
+            put_failure(&mut text, source, number, at);
+            text.len
+        }
     }
 }
