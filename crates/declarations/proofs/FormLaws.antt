@@ -23,18 +23,18 @@ use Rattle.grammar.specs.Cells.{parse_in_range}
 use Rattle.grammar.specs.Statements.{parse_outermost}
 use Rattle.grammar.specs.Declarations.{ItemKeyword, new_name, size_of, parse_item, parse_list, parse_local, parse_locals, parse_global, parse_initials, parse_array, parse_limited, parse_procedure, parse_accumulator, declaration_keywords, more_declarations, parse_declarations}
 use Rattle.grammar.specs.Program.{parse_main}
-use Rattle.storage.specs.declared.Allocation as code
-use Rattle.storage.specs.declared.SectorEnds.{SectorEnds}
-use Rattle.storage.specs.Clauses.{Answer, Allocates}
-use Rattle.storage.specs.Allocations.{end_of, allocation_of, Declared}
-use Rattle.storage.specs.Forms.{declarations_of, items_in, array_head, one_array, array_in, arrays_in, limited_in}
+use Rattle.declarations.specs.declared.Allocation as code
+use Rattle.declarations.specs.declared.SectorEnds.{SectorEnds}
+use Rattle.declarations.specs.Clauses.{Answer, Allocates}
+use Rattle.declarations.specs.Allocations.{end_of, allocation_of, Declared}
+use Rattle.declarations.specs.Forms.{declarations_of, items_in, array_head, one_array, array_in, arrays_in, limited_in}
 use Rattle.declarations.specs.Forms.{begins, heading_in, body_in, procedure_in, accumulator_in, declaration_in}
-use Rattle.storage.specs.Scopes.{keyword_of}
+use Rattle.declarations.specs.Scopes.{keyword_of}
 use Rattle.declarations.specs.Procedures.{main_in}
-use Rattle.storage.proofs.ListLaws.{mapped, then_mapped, map_list}
+use Rattle.declarations.proofs.ListLaws.{mapped, then_mapped, map_list}
 use Rattle.parser.proofs.ReadLaws.{Turning, reads_as}
-use Rattle.storage.proofs.GlobalLaws.{items_allocation}
-use Rattle.storage.proofs.AllocationLaws.{more_declared}
+use Rattle.declarations.proofs.GlobalLaws.{items_allocation}
+use Rattle.declarations.proofs.AllocationLaws.{more_declared}
 
 -- ---- Results
 

@@ -31,20 +31,20 @@ use Rattle.layout.specs.Emission.{stored, local_values, emit_declaration, emit_d
 use Rattle.emitter.specs.declared.Output.{Output}
 use Rattle.emitter.proofs.Lays.{word, sequence}
 use Rattle.emitter.proofs.EmittedWords.{return_word}
-use Rattle.storage.specs.declared.SectorEnds.{SectorEnds}
-use Rattle.storage.specs.declared.Allocation.{Allocation}
-use Rattle.storage.specs.Allocations.{ends_of, end_of, pool_of, with_global, allocation_of, SoundAllocation, Declared, sector_number}
-use Rattle.storage.specs.Forms.{limited_in}
+use Rattle.declarations.specs.declared.SectorEnds.{SectorEnds}
+use Rattle.declarations.specs.declared.Allocation.{Allocation}
+use Rattle.declarations.specs.Allocations.{ends_of, end_of, pool_of, with_global, allocation_of, SoundAllocation, Declared, sector_number}
+use Rattle.declarations.specs.Forms.{limited_in}
 use Rattle.declarations.specs.Forms.{heading_in, body_in, procedure_in}
-use Rattle.storage.specs.Frames.{framed, FrameEmitted}
-use Rattle.storage.specs.Clauses.{limit_then_expect, end_then_expect}
+use Rattle.declarations.specs.Frames.{framed, FrameEmitted}
+use Rattle.declarations.specs.Clauses.{limit_then_expect, end_then_expect}
 use Rattle.declarations.specs.Procedures.{bases_at, BodyEmitted}
 use Rattle.parser.proofs.Answers.{then_got, then_failed}
-use Rattle.storage.proofs.ParseLaws.{then_inv}
-use Rattle.storage.proofs.NameLaws.{name_room}
-use Rattle.storage.proofs.ScopeLaws.{held_more, held_kept}
-use Rattle.storage.proofs.LimitLaws.{sector_number_lem, limited_then, not_passed, Exact, same_number, limited_exact}
-use Rattle.storage.proofs.SectorLaws.{ends_length}
+use Rattle.declarations.proofs.ParseLaws.{then_inv}
+use Rattle.declarations.proofs.NameLaws.{name_room}
+use Rattle.declarations.proofs.ScopeLaws.{held_more, held_kept}
+use Rattle.declarations.proofs.LimitLaws.{sector_number_lem, limited_then, not_passed, Exact, same_number, limited_exact}
+use Rattle.declarations.proofs.SectorLaws.{ends_length}
 
 -- ---- The heading
 

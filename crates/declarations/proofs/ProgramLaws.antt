@@ -31,15 +31,15 @@ use Rattle.layout.specs.Emission.{stored, item_values, local_values, emit_declar
 use Rattle.emitter.specs.declared.Output.{Output}
 use Rattle.emitter.proofs.Lays.{word, sequence}
 use Rattle.emitter.proofs.EmittedWords.{generic_word}
-use Rattle.storage.specs.declared.SectorEnds.{SectorEnds}
-use Rattle.storage.specs.declared.Allocation.{Allocation}
-use Rattle.storage.specs.Allocations.{ends_of, end_of, pool_of, global_scope, allocation_of, SoundAllocation, Declared, DeclaredAnyPlan, sector_number}
-use Rattle.storage.specs.Clauses.{after_token, end_then_expect}
+use Rattle.declarations.specs.declared.SectorEnds.{SectorEnds}
+use Rattle.declarations.specs.declared.Allocation.{Allocation}
+use Rattle.declarations.specs.Allocations.{ends_of, end_of, pool_of, global_scope, allocation_of, SoundAllocation, Declared, DeclaredAnyPlan, sector_number}
+use Rattle.declarations.specs.Clauses.{after_token, end_then_expect}
 use Rattle.declarations.specs.Procedures.{bases_at, main_in, MainEmitted, program_in, ProgramEmitted}
 use Rattle.parser.proofs.Answers.{then_got, then_failed}
 use Rattle.parser.proofs.ReadLaws.{then_then}
-use Rattle.storage.proofs.LimitLaws.{sector_number_lem, Exact, same_number, limited_exact}
-use Rattle.storage.proofs.SectorLaws.{ends_length}
+use Rattle.declarations.proofs.LimitLaws.{sector_number_lem, Exact, same_number, limited_exact}
+use Rattle.declarations.proofs.SectorLaws.{ends_length}
 use Rattle.declarations.proofs.ProcedureLaws.{ended_then}
 use Rattle.declarations.proofs.FormLaws.{main_def}
 

@@ -1,4 +1,9 @@
 -- Declarations, compiled.
+pub mod Declares
+pub mod Scopes
+pub mod Allocations
 pub mod Forms
+pub mod Values
+pub mod Frames
 pub mod Procedures
 pub mod Clauses

@@ -20,14 +20,14 @@ use Rattle.layout.specs.Emission as emission
 use Rattle.emitter.specs.Lays.{Lays}
 use Rattle.layout.specs.Emission.{stored, local_values, emit_main, emit_program}
 use Rattle.emitter.specs.declared.Output.{Output}
-use Rattle.storage.specs.declared.SectorEnds.{SectorEnds}
-use Rattle.storage.specs.declared.Allocation.{Allocation}
-use Rattle.storage.specs.Clauses.{Answer}
+use Rattle.declarations.specs.declared.SectorEnds.{SectorEnds}
+use Rattle.declarations.specs.declared.Allocation.{Allocation}
+use Rattle.declarations.specs.Clauses.{Answer}
 use Rattle.declarations.specs.declared.Reading.{Reading}
-use Rattle.storage.specs.Declares.{Declares}
-use Rattle.storage.specs.Frames.{framed}
-use Rattle.storage.specs.Scopes.{table_words}
-use Rattle.storage.specs.Allocations.{end_of, allocation_of, SoundAllocation}
+use Rattle.declarations.specs.Declares.{Declares}
+use Rattle.declarations.specs.Frames.{framed}
+use Rattle.declarations.specs.Scopes.{table_words}
+use Rattle.declarations.specs.Allocations.{end_of, allocation_of, SoundAllocation}
 use Rattle.layout.specs.Addresses.{first_global}
 
 -- where the words of a body find what they name

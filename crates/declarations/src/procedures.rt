@@ -1,8 +1,8 @@
 // Procedures.
 ghost use Rattle.symbols.specs.Packing.{unpack};
 ghost use Rattle.parser.specs.Reads.{Gives};
-ghost use Rattle.storage.specs.Allocations.{allocation_of};
-ghost use Rattle.storage.specs.Clauses.{Ready, ReadyForName, Allocates};
+ghost use Rattle.declarations.specs.Allocations.{allocation_of};
+ghost use Rattle.declarations.specs.Clauses.{Ready, ReadyForName, Allocates};
 ghost use Rattle.declarations.specs.Forms.{heading_in, body_in, procedure_in, accumulator_in};
 ghost use Rattle.declarations.specs.Clauses.{EmitsBody};
 
@@ -10,8 +10,8 @@ use crate::bodies::statements_under;
 use emitter::{Context, Output, emit_return};
 use parser::{Part, Read, expect};
 use source::kind::{BEGIN, PROCEDURE, SEMICOLON};
-use storage::limits::end_then_expect;
-use storage::{Allocation, SectorEnds};
+use crate::limits::end_then_expect;
+use crate::{Allocation, SectorEnds};
 use symbols::{Packed, Symbol};
 
 // A procedure up to its `.BEGIN`.

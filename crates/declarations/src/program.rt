@@ -3,9 +3,9 @@ ghost use Rattle.std.specs.Prelude.{◌≡◌, ◌≤◌, length};
 ghost use Rattle.source.specs.Kinds as kinds;
 ghost use Rattle.grammar.specs.Declarations.{parse_checked, parse_declarations};
 ghost use Rattle.parser.specs.Reads.{Gives};
-ghost use Rattle.storage.specs.Allocations.{allocation_of};
-ghost use Rattle.storage.specs.Clauses.{Ready, Allocates, after_token};
-ghost use Rattle.storage.specs.Scopes.{table_words};
+ghost use Rattle.declarations.specs.Allocations.{allocation_of};
+ghost use Rattle.declarations.specs.Clauses.{Ready, Allocates, after_token};
+ghost use Rattle.declarations.specs.Scopes.{table_words};
 ghost use Rattle.declarations.specs.Forms as forms;
 ghost use Rattle.declarations.specs.Procedures.{main_in, AtStart, program_in, Programs};
 ghost use Rattle.declarations.specs.Clauses.{EmitsMain, CompilesProgram};
@@ -21,9 +21,9 @@ use source::kind::{
     ACCUMULATOR, ARRAY, BEGIN, CHECKED, END_OF_SOURCE, INTEGER, NEXTSECTOR, PROCEDURE, SEMICOLON,
 };
 use source::{Token, token_at};
-use storage::limits::end_then_expect;
-use storage::sectors::store_pool;
-use storage::{Allocation, ItemKeyword, SectorEnds};
+use crate::limits::end_then_expect;
+use crate::sectors::store_pool;
+use crate::{Allocation, ItemKeyword, SectorEnds};
 
 /// The words of a table of 512 names.
 pub const TABLE_WORDS: usize = 3584;

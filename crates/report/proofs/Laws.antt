@@ -25,13 +25,16 @@ use Rattle.layout.specs.Allocation.{allocated}
 use Rattle.layout.specs.Map.{declared, finished}
 use Rattle.grammar.specs.Parse.Got.{got}
 use Rattle.parser.specs.declared.Part.{Part}
-use Rattle.emitter.specs.declared.Output.{Output}
+use Rattle.parser.specs.declared.Failure.{Failure}
+use Rattle.std.specs.Prelude.{Result, Ok, Err}
 use Rattle.declarations.specs.declared.SectorEnds.{SectorEnds}
-use Rattle.declarations.specs.declared.Allocation.{Allocation}
+use Rattle.declarations.specs.declared.Reading.{Reading}
 use Rattle.declarations.specs.Declares.{Declares}
 use Rattle.declarations.specs.Scopes.{table_words}
 use Rattle.declarations.specs.Procedures.{program_in, program_on, ProgramEmitted}
-use Rattle.compiler.proofs.ReadingLaws.{again, on_table}
+use Rattle.compiler.proofs.ReadingLaws.{on_table}
+use Rattle.parser.proofs.ReadLaws.{never, came, failed_as}
+use Rattle.report.specs.Shown.{ProgramRead}
 use Rattle.symbols.specs.Table.{row_at, row_of, entries_of, live_names}
 use Rattle.report.specs.Globals.{element_head, element_end, element_text, elements_text, array_text, id_text, symbol_text, size_of, next_array, names_text, declaration_text, globals_text}
 
@@ -139,15 +142,26 @@ module _ (memory table : List ℕ) (i : ℕ) {name : List ℕ} {symbol : symbols
 
 -- ---- The program that was read
 
-pub program_read : (source table : List ℕ) {flag : Bool} {s : Allocation} {output : Output} {plan : SectorEnds} {image image' table' : List ℕ} {part : Part}
-    → Declares (ProgramEmitted plan image flag s output table' image') part (program_on source table) → table_words ≤ length table → length table' ≡ length table
-    → (p : Program) (n : ℕ) → program_in source ≡ got p n → (7 * s.names ≤ length table') × (entries_of s.names table' ≡ (allocated p.declarations).scope.names) × (flag ≡ p.checked) × (output.next ≡ (finished p).next)
-unfolding live_names finished declared
-program_read source table {s} {table' = table'} r room k p n e =
-    let done = again p n (on_table source table room ∙ e) r in
-    let few = done.sound.few in
-    let inside : s.names ≤ length table' / 7 = omega (arith, room, k, few) in
-    (omega (arith, inside), rw (le-leb _ _ inside) at (ap (λ st. st.scope.names) done.allocation), done.checked, done.next)
+module _ (source table : List ℕ) {plan : SectorEnds} {image image' table' : List ℕ} {r : Result (Part Reading) Failure}
+    (h : Declares (λ q x. ProgramEmitted plan image x.checked x.allocation x.end table' image' q) r (program_on source table)) (room : table_words ≤ length table) where
+  pub program_read : {part : Part Reading} → r ≡ Ok part → length table' ≡ length table
+      → ProgramRead source (record { names = part.value.allocation.names; checked = part.value.checked; end = part.value.end.next }) table'
+  unfolding live_names finished declared
+  program_read {part} q k =
+      let one = came h q in
+      let done = one.holds in
+      let few = done.sound.few in
+      let inside : part.value.allocation.names ≤ length table' / 7 = omega (arith, room, k, few) in
+      let its : (p : Program) (n : ℕ) → program_in source ≡ got p n → one.tree ≡ p = λ p n e. let a : got one.tree part.next ≡ got p n = sym one.is ∙ on_table source table room ∙ e in cc in
+      record {
+        inside = omega (arith, inside);
+        names = λ p n e. rw (← its p n e) (rw (le-leb _ _ inside) at (ap (λ st. st.scope.names) done.allocation));
+        checked = λ p n e. rw (← its p n e) done.checked;
+        end = λ p n e. rw (← its p n e) done.next;
+      }
+
+  pub no_program : {f : Failure} → r ≡ Err f → (p : Program) (n : ℕ) → program_in source ≡ got p n → ⊥
+  no_program q p n e = never (on_table source table room ∙ e) (failed_as h q)
 
 -- ---- The names as declarations
 

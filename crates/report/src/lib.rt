@@ -3,7 +3,6 @@
 
 ghost use Rattle.report.specs.Shown.{Shows};
 
-use compiler::Answer;
 use effect::Switches;
 use failure_report::put_failure;
 use run::put_run;
@@ -29,20 +28,13 @@ pub fn show(
     let mut text = Text::new(out);
     let answer = compiler::compile(source, &mut *image, &mut *scratch);
     match answer {
-        Answer::Accepted {
-            entry,
-            words: _,
-            globals: _,
-        } => {
-            let first = start(entry, switches);
+        Ok(program) => {
+            let first = start(program.entry, switches);
             let ran = run_turns(&mut *image, first, turns);
             put_run(&mut text, source, ran, image, &mut *scratch);
             compiler::clear(&mut *scratch);
-            text.len
         }
-        Answer::Failed { number, at } => {
-            put_failure(&mut text, source, number, at);
-            text.len
-        }
+        Err(failure) => put_failure(&mut text, source, failure.cause.number(), failure.at),
     }
+    text.len
 }

@@ -10,7 +10,7 @@ use declarations::program::program;
 use effect::Registers;
 use failure_report::put_words;
 use machine::Outcome;
-use symbols::ENTRY;
+use parser::Part;
 use text::Text;
 use turns::Turned;
 
@@ -69,14 +69,14 @@ fn put_registers(text: &mut Text<'_>, registers: Registers, x: u16)
 }
 
 // What is read of a program: how many names the table holds, whether its subscripts are tested, and the address behind its last HLT.
-#[derive(Clone, Copy)]
+#[derive(Clone, Copy, Debug, PartialEq, Eq)]
 pub struct ProgramFacts {
     pub names: usize,
     pub checked: bool,
     pub end: u16,
 }
 
-// The source read once more, on no image.
+// The source read once more, on no image; of one that fails, nothing.
 fn read_program(source: &[u8], table: &mut [u16]) -> ProgramFacts
     requires { table_words ≤ length table.old }
     ensures { ProgramRead source.now result table.new }
@@ -85,25 +85,18 @@ fn read_program(source: &[u8], table: &mut [u16]) -> ProgramFacts
         ends: [0u16; 32],
         count: 0,
     };
-    let mut none = [0u16; 0];
-    let read = program(source, table, &mut none, unplanned);
-    let allocation = read.allocation;
-    let names = allocation.names;
-    let checked = read.checked;
-    let last = read.end;
-    let end = last.next;
-    // Of a source that fails nothing is promised of the count, so it is held to what the table can have.
-    if table.len() / ENTRY < names {
+    let read = program(source, table, &mut [], unplanned);
+    let Ok(Part { value, next: _ }) = read else {
         return ProgramFacts {
             names: 0,
-            checked,
-            end,
+            checked: false,
+            end: 0,
         };
-    }
+    };
     ProgramFacts {
-        names,
-        checked,
-        end,
+        names: value.allocation.names,
+        checked: value.checked,
+        end: value.end.next,
     }
 }
 

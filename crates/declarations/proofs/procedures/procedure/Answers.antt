@@ -3,8 +3,8 @@ use native.Mathlib.Omega.{arith}
 use Rattle.parser.specs.Reads.Reads.{read, fails}
 use Rattle.symbols.specs.Packing.{unpack}
 use Rattle.symbols.specs.Trees.{tree_symbol}
-use Rattle.storage.specs.Allocations.{allocation_of}
-use Rattle.storage.proofs.NameLaws.{held_length}
+use Rattle.declarations.specs.Allocations.{allocation_of}
+use Rattle.declarations.proofs.NameLaws.{held_length}
 use Rattle.parser.proofs.Answers.{then_got, then_failed, gives_read, gives_failed}
 use Rattle.parser.proofs.ReadLaws.{came, failed_as}
 use Rattle.declarations.proofs.ProcedureLaws.{heading_room, procedure_heading, procedure_body, procedure_ended, procedure_limit, procedure_declared, ended_zero}

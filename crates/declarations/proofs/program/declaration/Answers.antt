@@ -1,8 +1,8 @@
 use mathlib.Core.Path.{◌∙◌}
-use Rattle.storage.specs.Allocations.{end_of}
-use Rattle.storage.specs.Scopes.{tree_found}
+use Rattle.declarations.specs.Allocations.{end_of}
+use Rattle.declarations.specs.Scopes.{tree_found}
 use Rattle.parser.proofs.ReadLaws.{reads_to, reads_on}
-use Rattle.storage.proofs.LimitLaws.{next_any}
+use Rattle.declarations.proofs.LimitLaws.{next_any}
 use borrow.Author.Rules.{rules}
 use Rattle.declarations.proofs.FormLaws.{in_items, in_array, in_sector, in_procedure_lem, in_accumulator}
 use Rattle.declarations.proofs.program.declaration.Goals as goal

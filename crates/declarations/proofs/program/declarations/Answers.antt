@@ -4,7 +4,7 @@ use lib.ListN.{length}
 use native.Mathlib.Omega.{arith}
 use borrow.Author.Tests.{not-true, not-false}
 use Rattle.parser.proofs.ReadLaws.{turn_zero, turn_none, turn_failed, turn_next}
-use Rattle.storage.proofs.AllocationLaws.{none_declared}
+use Rattle.declarations.proofs.AllocationLaws.{none_declared}
 use Rattle.declarations.proofs.FormLaws.{declarations_first, declaration_none, declaration_some, declaration_next}
 use Rattle.declarations.proofs.program.declarations.Goals as goal
 

@@ -2,7 +2,7 @@ use mathlib.Core.Path.{◌≡◌}
 use Prim.Native.Nat.{◌-◌}
 use lib.ListN.{length}
 use Rattle.grammar.specs.Declarations.{more_declarations, parse_declarations}
-use Rattle.storage.specs.Allocations.{end_of, Declared}
+use Rattle.declarations.specs.Allocations.{end_of, Declared}
 use Rattle.parser.proofs.ReadLaws.{Turning}
 use Rattle.declarations.proofs.program.declarations.Given as goal
 

@@ -6,7 +6,7 @@ use native.Mathlib.Omega.{arith}
 use borrow.Author.Tests.{le-leb, lt-leb}
 use Rattle.parser.specs.Reads.Reads.{fails}
 use Rattle.parser.proofs.ReadLaws.{reads_on}
-use Rattle.storage.specs.Scopes.{table_words}
+use Rattle.declarations.specs.Scopes.{table_words}
 use Rattle.declarations.specs.Procedures.{program_on}
 use Rattle.declarations.proofs.program.program.Goals as goal
 
