@@ -1,2 +1,2 @@
 -- Laws of stored cases.
-pub mod Numbers
+pub mod Digits

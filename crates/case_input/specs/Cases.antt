@@ -1,8 +1,8 @@
 -- Numbers and parts of a text of stored cases, and what a run starts with.
 use Rattle.std.specs.Prelude.{ℕ, zero, suc, ◌+◌, ◌-◌, ◌*◌, ◌%◌, Bool, cond, List, [], ◌∷◌, leb, eqb, drop, set}
 use Rattle.case_input.specs.declared.Number.{Number}
-use Rattle.case_input.specs.declared.StartRegisters.{StartRegisters}
-use Rattle.case_input.specs.declared.StartSwitches.{StartSwitches}
+use Rattle.effect.specs.declared.Registers.{Registers}
+use Rattle.effect.specs.declared.Switches.{Switches}
 
 abbrev pub is_digit : ℕ → Bool
 is_digit b = cond (leb 48 b) (leb b 57) (leb 48 b)
@@ -26,20 +26,30 @@ word_of n = n.value % 65536
 abbrev pub flag_of : Number → Bool
 flag_of n = eqb (n.value % 2) 1
 
-abbrev pub registers_from : List ℕ → ℕ → StartRegisters
+-- what stands at an offset of a text, and the offset after it
+abbrev pub value_from : List ℕ → ℕ → ℕ × ℕ
+value_from text at = let n = number_at text at in (n.value, n.next)
+
+abbrev pub word_from : List ℕ → ℕ → ℕ × ℕ
+word_from text at = let n = number_at text at in (word_of n, n.next)
+
+abbrev pub flag_from : List ℕ → ℕ → Bool × ℕ
+flag_from text at = let n = number_at text at in (flag_of n, n.next)
+
+abbrev pub registers_from : List ℕ → ℕ → Registers × ℕ
 registers_from text at =
     let a = number_at text at in
     let b = number_at text a.next in
     let c = number_at text b.next in
-    record { registers = record { a = word_of a; b = word_of b; c = flag_of c }; next = c.next }
+    (record { a = word_of a; b = word_of b; c = flag_of c }, c.next)
 
-abbrev pub switches_from : List ℕ → ℕ → StartSwitches
+abbrev pub switches_from : List ℕ → ℕ → Switches × ℕ
 switches_from text at =
     let one = number_at text at in
     let two = number_at text one.next in
     let three = number_at text two.next in
     let four = number_at text three.next in
-    record { switches = record { one = flag_of one; two = flag_of two; three = flag_of three; four = flag_of four }; next = four.next }
+    (record { one = flag_of one; two = flag_of two; three = flag_of three; four = flag_of four }, four.next)
 
 -- an image with so many words of a text set, and the offset after them
 unfoldable pub set_from : List ℕ → ℕ → ℕ → List ℕ → List ℕ × ℕ

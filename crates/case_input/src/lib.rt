@@ -2,12 +2,12 @@
 #![tactic(auto)]
 
 ghost use Rattle.std.specs.Prelude.{◌≡◌, ◌≤◌, length, drop};
-ghost use Rattle.case_input.specs.Cases.{is_digit, grown, number_from, word_of, flag_of, registers_from, switches_from, words_from, part_end};
+ghost use Rattle.case_input.specs.Cases.{is_digit, grown, number_from, word_of, flag_of, number_at, value_from, word_from, flag_from, registers_from, switches_from, words_from, part_end};
 
 use effect::{Registers, Switches};
 
 // A number, and where the next one starts.
-#[derive(Clone, Copy)]
+#[derive(Debug, Clone, Copy, PartialEq, Eq)]
 pub struct Number {
     pub value: u32,
     pub next: usize,
@@ -16,21 +16,18 @@ pub struct Number {
 fn is_digit(b: u8) -> bool
     ensures { result ≡ is_digit b }
 {
-    if b < b'0' {
-        return false;
-    }
-    b <= b'9'
+    b.is_ascii_digit()
 }
 
 // A digit of ASCII modulo 16 is its value.
 fn appended(value: u32, digit: u8) -> u32
     ensures { result ≡ grown value digit }
 {
-    ((value as u64 * 10 + (digit % 16) as u64) % 4294967296) as u32
+    value.wrapping_mul(10).wrapping_add(u32::from(digit % 16))
 }
 
 // A number that is missing is 0.
-#[tactic(auto, using(crate::proofs::Numbers::for_parse_number))]
+#[tactic(auto, using(crate::proofs::Digits::for_parse_number))]
 pub fn parse_number(text: &[u8], at: usize) -> Number
     ensures { result ≡ number_from (drop at text.now) 0 at }
 {
@@ -60,70 +57,80 @@ pub fn flag(n: Number) -> bool
     n.value % 2 == 1
 }
 
-// A, B and C, and where the next number starts.
-#[derive(Drop)]
-pub struct StartRegisters {
-    pub registers: Registers,
-    pub next: usize,
+// The numbers of a text one after the other, from the place where the next one starts.
+#[derive(Debug, Clone, Copy)]
+pub struct Numbers<'a> {
+    pub text: &'a [u8],
+    pub at: usize,
 }
 
-pub fn parse_registers(text: &[u8], at: usize) -> StartRegisters
-    ensures { result ≡ registers_from text.now at }
-{
-    let a = parse_number(text, at);
-    let b = parse_number(text, a.next);
-    let c = parse_number(text, b.next);
-    StartRegisters {
-        registers: Registers {
-            a: word(a),
-            b: word(b),
-            c: flag(c),
-        },
-        next: c.next,
+impl Numbers<'_> {
+    fn next(&mut self) -> Number
+        ensures number { result ≡ number_at self.old.text.now self.old.at }
+        ensures on { (self.new.at ≡ result.next) × (self.new.text.now ≡ self.old.text.now) }
+    {
+        let number = parse_number(self.text, self.at);
+        self.at = number.next;
+        number
     }
-}
 
-// The sense switches, and where the next number starts.
-#[derive(Drop)]
-pub struct StartSwitches {
-    pub switches: Switches,
-    pub next: usize,
-}
-
-pub fn parse_switches(text: &[u8], at: usize) -> StartSwitches
-    ensures { result ≡ switches_from text.now at }
-{
-    let one = parse_number(text, at);
-    let two = parse_number(text, one.next);
-    let three = parse_number(text, two.next);
-    let four = parse_number(text, three.next);
-    StartSwitches {
-        switches: Switches {
-            one: flag(one),
-            two: flag(two),
-            three: flag(three),
-            four: flag(four),
-        },
-        next: four.next,
+    pub fn number(&mut self) -> u32
+        ensures read { (result, self.new.at) ≡ value_from self.old.text.now self.old.at }
+        ensures same { self.new.text.now ≡ self.old.text.now }
+    {
+        self.next().value
     }
-}
 
-// Sets words of an image: their count, then the address and the value of each. Answers where the next number starts.
-#[tactic(auto, using(crate::proofs::Numbers::for_parse_words))]
-pub fn parse_words(text: &[u8], at: usize, image: &mut [u16; 16384]) -> usize
-    ensures { ((image.new, result) ≡ words_from text.now at image.old)
-        × (length image.new ≡ length image.old) }
-{
-    let count = parse_number(text, at);
-    let left = count.value;
-    let mut at = count.next;
-    for _ in 0..left {
-        let address = parse_number(text, at);
-        let value = parse_number(text, address.next);
-        image[(address.value % 16384) as usize] = word(value);
-        at = value.next;
+    pub fn word(&mut self) -> u16
+        ensures read { (result, self.new.at) ≡ word_from self.old.text.now self.old.at }
+        ensures same { self.new.text.now ≡ self.old.text.now }
+    {
+        word(self.next())
     }
-    at
+
+    pub fn flag(&mut self) -> bool
+        ensures read { (result, self.new.at) ≡ flag_from self.old.text.now self.old.at }
+        ensures same { self.new.text.now ≡ self.old.text.now }
+    {
+        flag(self.next())
+    }
+
+    // A, B and C.
+    pub fn registers(&mut self) -> Registers
+        ensures read { (result, self.new.at) ≡ registers_from self.old.text.now self.old.at }
+        ensures same { self.new.text.now ≡ self.old.text.now }
+    {
+        Registers {
+            a: self.word(),
+            b: self.word(),
+            c: self.flag(),
+        }
+    }
+
+    // The sense switches.
+    pub fn switches(&mut self) -> Switches
+        ensures read { (result, self.new.at) ≡ switches_from self.old.text.now self.old.at }
+        ensures same { self.new.text.now ≡ self.old.text.now }
+    {
+        Switches {
+            one: self.flag(),
+            two: self.flag(),
+            three: self.flag(),
+            four: self.flag(),
+        }
+    }
+
+    // Sets words of an image: their count, then the address and the value of each.
+    #[tactic(auto, using(crate::proofs::Digits::for_set_words))]
+    pub fn set_words(&mut self, image: &mut [u16; 16384])
+        ensures set { (image.new, self.new.at) ≡ words_from self.old.text.now self.old.at image.old }
+        ensures same { self.new.text.now ≡ self.old.text.now }
+    {
+        for _ in 0..self.number() {
+            let address = self.number();
+            image[(address % 16384) as usize] = self.word();
+        }
+    }
 }
 
 // Where a part of so many bytes ends, no further than the text.
@@ -131,12 +138,5 @@ pub fn parse_words(text: &[u8], at: usize, image: &mut [u16; 16384]) -> usize
 pub fn part_end(text: &[u8], at: usize, size: u32) -> usize
     ensures { (result ≡ part_end (length text.now) at size) × (result ≤ length text.now) }
 {
-    let left = size as usize;
-    if text.len() <= at {
-        return text.len();
-    }
-    if text.len() - at <= left {
-        return text.len();
-    }
-    at + left
+    at.saturating_add(size as usize).min(text.len())
 }

@@ -8,8 +8,9 @@ use borrow.Author.Tests.{eqb-true, eqb-false, leb-true, leb-false}
 use lib.Dec.{eqb, leb}
 use lib.ListN.{length}
 use Rattle.prelude.specs.Choice.{whether}
+use Rattle.machine.specs.declared.failure.Failure.{Failure}
 use Rattle.machine.specs.declared.Outcome.{Outcome}
-use Rattle.machine.specs.Failure.{wrong_image, over_budget, wrong_p, wrong_cooperative, refused}
+use Rattle.machine.specs.Failure.{refused}
 use Rattle.machine.specs.Clock.{spend_many}
 use Rattle.machine.specs.Run.{Ran, idle, report_of}
 use Rattle.runs.specs.Outcomes.{Refusal}
@@ -18,8 +19,7 @@ use Rattle.runs.proofs.RunLaws.{run_laws}
 use Rattle.compilation.specs.Compile.{Result, compile_def}
 use Rattle.memory_map.proofs.MapLaws.{map_laws}
 use Rattle.parsing_laws.proofs.Parsed.Programs.{numbered, short_enough}
-use Rattle.compiler.specs.declared.Answer.{Answer}
-use Rattle.compiler.specs.Compile.{scratch_words, result_on, answer_of, image_after}
+use Rattle.compiler.specs.Compile.{scratch_words, result_on, answer_of, image_after, Answer}
 use Rattle.compiler.specs.DemandOne.{CompileEnds, RunEnds, Demand1Called}
 use Rattle.layout.specs.Addresses.{memory_words}
 
@@ -40,7 +40,7 @@ module _ (source image scratch : List ℕ) (r : Answer) (image' : List ℕ) wher
 -- ---- Runs
 
 module _ (c : RunCall) (call : RunCalled c) where
-  refusal : (n : ℕ) → refused (asked c).outcome ≡ true → (asked c).outcome ≡ Outcome.Failed n → RunEnds c
+  refusal : (n : Failure) → refused (asked c).outcome ≡ true → (asked c).outcome ≡ Outcome.Failed n → RunEnds c
   unfolding spend_many
   refusal n e o =
       let x = run_laws.refusals c.turn.request c.start n in
@@ -48,20 +48,20 @@ module _ (c : RunCall) (call : RunCalled c) where
       let a = x.answer f in
       RunEnds.refused n f (call.reported ∙ ap (report_of c.turn.request c.clock) a) (call.left ∙ ap (λ (d : Ran). d.state.image) a)
 
-  not_refused : refused (asked c).outcome ≡ false → (n : ℕ) → Refusal c.turn.request c.start n → ⊥
+  not_refused : refused (asked c).outcome ≡ false → (n : Failure) → Refusal c.turn.request c.start n → ⊥
   not_refused e n f = by_cause n f ((run_laws.refusals c.turn.request c.start n).answer f)
     where
-      absurd_at : (n : ℕ) → refused (Outcome.Failed n) ≡ true → asked c ≡ idle (Outcome.Failed n) c.start → ⊥
+      absurd_at : (n : Failure) → refused (Outcome.Failed n) ≡ true → asked c ≡ idle (Outcome.Failed n) c.start → ⊥
       absurd_at n t a =
           let f : ◌≡◌ {A = Bool} false true = sym e ∙ ap (λ (d : Ran). refused d.outcome) a ∙ t in
           let z : ◌≡◌ {A = ℕ} 0 1 = cc in
           omega arith
 
-      by_cause : (n : ℕ) → Refusal c.turn.request c.start n → asked c ≡ idle (Outcome.Failed n) c.start → ⊥
-      by_cause n (Refusal.of_cooperative h) a = absurd_at wrong_cooperative refl a
-      by_cause n (Refusal.of_image c h) a = absurd_at wrong_image refl a
-      by_cause n (Refusal.of_p c h l) a = absurd_at wrong_p refl a
-      by_cause n (Refusal.of_budget c h l) a = absurd_at over_budget refl a
+      by_cause : (n : Failure) → Refusal c.turn.request c.start n → asked c ≡ idle (Outcome.Failed n) c.start → ⊥
+      by_cause n (Refusal.of_cooperative h) a = absurd_at Failure.WrongCooperative refl a
+      by_cause n (Refusal.of_image c h) a = absurd_at Failure.WrongImage refl a
+      by_cause n (Refusal.of_p c h l) a = absurd_at Failure.WrongP refl a
+      by_cause n (Refusal.of_budget c h l) a = absurd_at Failure.OverBudget refl a
 
   by_refusal : (b : Bool) → refused (asked c).outcome ≡ b → (o : Outcome) → (asked c).outcome ≡ o → RunEnds c
   by_refusal false e o u =

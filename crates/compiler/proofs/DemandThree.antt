@@ -18,8 +18,7 @@ use Rattle.semantics.specs.Trace.{State}
 use Rattle.semantics.specs.Agreement.{Agrees, Demand3, Loadable}
 use Rattle.semantics.proofs.Demand.Theorem.{demand3}
 use Rattle.semantics.proofs.Demand.Loading as loading
-use Rattle.compiler.specs.declared.Answer.{Answer}
-use Rattle.compiler.specs.Compile.{scratch_words, result_on, answer_of, image_after}
+use Rattle.compiler.specs.Compile.{scratch_words, result_on, answer_of, image_after, Answer, accepted_with}
 use Rattle.compiler.specs.DemandThree.{Calls, delivered, Demand3Called}
 use Rattle.layout.specs.Addresses.{memory_words}
 
@@ -65,7 +64,7 @@ fewer h a = record {
 -- ---- An accepted source
 
 -- a result with an accepted answer has the program, with what the call gave
-accepted_as : (x : Result) (image image' : List ℕ) (e w g : ℕ) → answer_of x ≡ Answer.Accepted e w g → image' ≡ image_after x image
+accepted_as : (x : Result) (image image' : List ℕ) (e w g : ℕ) → answer_of x ≡ accepted_with e w g → image' ≡ image_after x image
     → (p : Program) × (x ≡ Result.accepted (delivered p image' e w g))
 unfolding answer_of image_after
 accepted_as (Result.accepted c) image image' e w g a i =

@@ -1,6 +1,8 @@
 -- What the two readings come to: the definition's result.
 use Prim.Native.Nat.{ℕ, ◌≤◌, ◌<◌}
-use mathlib.Core.Path.{◌≡◌, refl, sym, ap, ◌∙◌, fun_ext}
+use Rattle.std.specs.Prelude.{Ok, Err}
+use Rattle.std.specs.Prelude.{Result as Answered}
+use mathlib.Core.Path.{◌≡◌, refl, sym, ap, subst, ◌∙◌, fun_ext}
 use mathlib.Core.Bool.{Bool}
 use mathlib.Core.List.{List, [], ◌∷◌, ◌++◌}
 use native.Mathlib.Omega.{arith}
@@ -21,45 +23,24 @@ use Rattle.memory_map.specs.EmittedImage.{EmittedImage}
 use Rattle.memory_map.proofs.EmittedImage.{emitted_image}
 use Rattle.declarations.specs.declared.SectorEnds.{SectorEnds}
 use Rattle.declarations.specs.declared.Allocation.{Allocation}
-use Rattle.declarations.specs.declared.ProgramAnswer.{ProgramAnswer}
+use Rattle.declarations.specs.declared.Reading.{Reading}
+use Rattle.parser.specs.declared.Failure.{Failure}
+use Rattle.parser.specs.Failures.{number_of}
 use Rattle.parser.specs.Reads.{Reads}
 use Rattle.declarations.specs.Allocations.{end_of, with_end}
 use Rattle.declarations.specs.Scopes.{table_words}
 use Rattle.declarations.specs.Procedures.{program_in, ProgramEmitted, program_on}
 use Rattle.declarations.proofs.SectorLaws.{each_end}
 use Rattle.parser.proofs.ReadLaws.{never, came, failed_as, reads_on}
-use Rattle.compiler.specs.declared.Answer.{Answer}
-use Rattle.compiler.specs.Compile.{scratch_words, result_on, answer_of, image_after, Answers}
-use Rattle.compiler.specs.Readings.{counted_of, answered_by, answered_of}
+use Rattle.compiler.specs.Compile.{scratch_words, result_on, answer_of, image_after, Answers, Answer, accepted_with, failed_with}
+use Rattle.compiler.specs.Readings.{counted_of}
 use Rattle.memory_map.proofs.Sectors.{pool_ends}
 use Rattle.layout.specs.Addresses.{memory_words}
 
 -- a second reading does what the first found
-pub again : {A : Type 0} {done : A → Type 0} {kept : Type 0} {part : Part} {g : Got A} (t : A) (n : ℕ) → g ≡ got t n → Reads done kept part g → done t
-again t n e (Reads.read {t = u} q p d) = let same : u ≡ t = cc in rw same at d
+pub again : {A X : Type 0} {done : A → X → Type 0} {kept : Type 0} {r : Answered (Part X) Failure} {g : Got A} (t : A) (n : ℕ) → g ≡ got t n → Reads done kept r g → (x : X) × done t x
+again {done = done} t n e (Reads.read {t = u} {x} q p d) = let same : u ≡ t = cc in (x, subst (λ y. done y x) same d)
 again t n e (Reads.fails q p w) = absurd (never e q)
-
--- what the answer after the first reading says of its part
-module _ (r : ProgramAnswer) {answer : Answer} (e : answer ≡ answered_of r) where
-  pub part_accepted : {entry words globals : ℕ} → answer ≡ Answer.Accepted entry words globals → (n : ℕ) × (r.part ≡ Part.Read n)
-  unfolding answered_by
-  part_accepted {entry} {words} {globals} q = go r.part (sym e ∙ q)
-    where
-      go : (p : Part) → answered_by p r ≡ Answer.Accepted entry words globals → (n : ℕ) × (p ≡ Part.Read n)
-      go (Part.Read n) i = (n, refl)
-      go (Part.Failed k at) i = absurd (let z : ◌≡◌ {A = ℕ} 0 1 = cc in omega arith)
-
-  pub part_failed : {k at : ℕ} → answer ≡ Answer.Failed k at → r.part ≡ Part.Failed k at
-  unfolding answered_by
-  part_failed {k} {at} q = go r.part (sym e ∙ q)
-    where
-      go : (p : Part) → answered_by p r ≡ Answer.Failed k at → p ≡ Part.Failed k at
-      go (Part.Read n) i = absurd (let z : ◌≡◌ {A = ℕ} 0 1 = cc in omega arith)
-      go (Part.Failed l a) i = cc
-
-  answer_counted : {n : ℕ} → r.part ≡ Part.Read n → answer ≡ counted_of r
-  unfolding answered_by
-  answer_counted q = e ∙ ap (λ p. answered_by p r) q
 
 -- a table with room for 512 names
 pub on_table : (source table : List ℕ) → table_words ≤ length table → program_on source table ≡ program_in source
@@ -82,20 +63,20 @@ module _ (source : List ℕ) (short : length source ≤ 8192) where
   result = ap result_of same
 
   -- nothing was lent, so nothing is changed
-  pub failed_reading : {done : Program → Type 0} {kept : Type 0} {part : Part} {answer : Answer} {k at : ℕ} (lent image scratch : List ℕ) → length lent ≡ 0 → table_words ≤ length scratch
-      → Reads done kept part (program_on source (take table_words scratch)) → part ≡ Part.Failed k at → answer ≡ Answer.Failed k at → Answers (compile_def source) image answer (lent ++ image)
+  pub failed_reading : {done : Program → Reading → Type 0} {kept : Type 0} {r : Answered (Part Reading) Failure} {f : Failure} (lent image scratch : List ℕ) → length lent ≡ 0 → table_words ≤ length scratch
+      → Reads done kept r (program_on source (take table_words scratch)) → r ≡ Err f → Answers (compile_def source) image (failed_with (number_of f.cause) f.at) (lent ++ image)
   unfolding result_of answer_of image_after
-  failed_reading {k = k} {at = at} [] image scratch h room r p a =
-      let e : compile_def source ≡ Result.failed k at = result ∙ ap result_of (sym (on_scratch source scratch room) ∙ failed_as r p) in (rw (e, a), rw e)
-  failed_reading (x ∷ xs) image scratch h room r p a = absurd (omega arith)
+  failed_reading {f = f} [] image scratch h room r p =
+      let e : compile_def source ≡ Result.failed (number_of f.cause) f.at = result ∙ ap result_of (sym (on_scratch source scratch room) ∙ failed_as r p) in (rw e, rw e)
+  failed_reading (x ∷ xs) image scratch h room r p = absurd (omega arith)
 
   module _ (p : Program) (n : ℕ) (is : program_in source ≡ got p n) where
     accepted : compile_def source ≡ Result.accepted (compiled p)
     unfolding result_of
     accepted = result ∙ ap result_of is
 
-    module _ (r : ProgramAnswer) {plan : SectorEnds} {image table image' : List ℕ} (c : ProgramEmitted plan image r.checked r.allocation r.end table image' p) where
-      counted : counted_of r ≡ answer_of (compile_def source)
+    module _ (r : Reading) {plan : SectorEnds} {image table image' : List ℕ} (c : ProgramEmitted plan image r.checked r.allocation r.end table image' p) where
+      counted : Ok (counted_of r) ≡ answer_of (compile_def source)
       unfolding answer_of compiled declared finished
       counted =
           let entry : r.allocation.output.next ≡ (declared p).next = ap (λ st. st.next) c.allocation in
@@ -109,20 +90,20 @@ module _ (source : List ℕ) (short : length source ≤ 8192) where
           ap (λ e. end_of e k) l ∙ each_end c.sound.closed r.end.next k ∙ ap (λ x. get_or (x ++ (r.end.next ∷ [])) k 0) (ap (λ st. st.ends) c.allocation)
           ∙ ap (λ x. get_or ((layout.allocated p.declarations).ends ++ (x ∷ [])) k 0) c.next ∙ sym (pool_ends p k)
 
-      laid : {plan' : SectorEnds} {flag' : Bool} {s' : Allocation} {end' : Output} {table' cleared laid' : List ℕ} {kept : Type 0} {part' : Part} (image₀ : List ℕ) → plan' ≡ with_end r.allocation.sectors r.end.next
-          → cleared ≡ replicate 16384 0 → Reads (ProgramEmitted plan' cleared flag' s' end' table' laid') kept part' (program_in source) → laid' ≡ image_after (compile_def source) image₀
+      laid : {plan' : SectorEnds} {table' cleared laid' : List ℕ} {kept : Type 0} {again' : Answered (Part Reading) Failure} (image₀ : List ℕ) → plan' ≡ with_end r.allocation.sectors r.end.next
+          → cleared ≡ replicate 16384 0 → Reads (λ q x. ProgramEmitted plan' cleared x.checked x.allocation x.end table' laid' q) kept again' (program_in source) → laid' ≡ image_after (compile_def source) image₀
       unfolding image_after compiled EmittedImage
       laid {cleared = cleared} image₀ l z second =
-          (again p n is second).laid ∙ ap (λ (f : ℕ → ℕ). emit_program f p cleared) (fun_ext (ends l)) ∙ ap (λ (i : List ℕ). emit_program (λ k. (plan_of p k).pool_at) p i) z
+          (again p n is second).1.laid ∙ ap (λ (f : ℕ → ℕ). emit_program f p cleared) (fun_ext (ends l)) ∙ ap (λ (i : List ℕ). emit_program (λ k. (plan_of p k).pool_at) p i) z
           ∙ emitted_image source p n (same ∙ is) ∙ sym (ap (λ e. image_after e image₀) accepted)
 
-  pub accepted_reading : (r : ProgramAnswer) {plan plan' : SectorEnds} {image table image' table' cleared laid' : List ℕ} {flag' : Bool} {s' : Allocation} {end' : Output} {kept kept' : Type 0} {part' : Part} {answer : Answer} {n : ℕ}
-      (image₀ scratch₀ scratch₁ : List ℕ) → table_words ≤ length scratch₀ → Reads (ProgramEmitted plan image r.checked r.allocation r.end table image') kept r.part (program_on source (take table_words scratch₀)) → answer ≡ answered_of r → r.part ≡ Part.Read n
-      → plan' ≡ with_end r.allocation.sectors r.end.next → cleared ≡ replicate 16384 0 → Reads (ProgramEmitted plan' cleared flag' s' end' table' laid') kept' part' (program_on source (take table_words scratch₁)) → table_words ≤ length scratch₁
-      → Answers (compile_def source) image₀ answer laid'
-  accepted_reading r {n = n} image₀ scratch₀ scratch₁ room first e q l z second room' =
+  pub accepted_reading : {plan plan' : SectorEnds} {image table image' table' cleared laid' : List ℕ} {kept kept' : Type 0} {read again' : Answered (Part Reading) Failure} {part : Part Reading}
+      (image₀ scratch₀ scratch₁ : List ℕ) → table_words ≤ length scratch₀ → Reads (λ q x. ProgramEmitted plan image x.checked x.allocation x.end table image' q) kept read (program_on source (take table_words scratch₀)) → read ≡ Ok part
+      → plan' ≡ with_end part.value.allocation.sectors part.value.end.next → cleared ≡ replicate 16384 0 → Reads (λ q x. ProgramEmitted plan' cleared x.checked x.allocation x.end table' laid' q) kept' again' (program_on source (take table_words scratch₁))
+      → table_words ≤ length scratch₁ → Answers (compile_def source) image₀ (Ok (counted_of part.value)) laid'
+  accepted_reading {part = part} image₀ scratch₀ scratch₁ room first q l z second room' =
       let one = came (reads_on (sym (on_scratch source scratch₀ room)) first) q in
-      (answer_counted r e q ∙ counted one.tree n one.is r one.holds, laid one.tree n one.is r one.holds image₀ l z (reads_on (sym (on_scratch source scratch₁ room')) second))
+      (counted one.tree part.next one.is part.value one.holds, laid one.tree part.next one.is part.value one.holds image₀ l z (reads_on (sym (on_scratch source scratch₁ room')) second))
 
 -- ---- The lengths
 
@@ -133,11 +114,11 @@ module _ (source image scratch : List ℕ) where
   done : (e : Result) {r : Answer} {image' : List ℕ} → result_on source image scratch ≡ e → Answers e image r image' → Done r image'
   done e q h = rw q h
 
-  pub wrong_image_lem : (length image ≡ memory_words → ⊥) → Done (Answer.Failed 1 0) image
+  pub wrong_image_lem : (length image ≡ memory_words → ⊥) → Done (failed_with 1 0) image
   unfolding result_on answer_of image_after
   wrong_image_lem h = done (Result.failed 1 0) (rw (ne_eqb _ _ h)) (refl, refl)
 
-  pub short_scratch : length image ≡ memory_words → length scratch < scratch_words → Done (Answer.Failed 2 0) image
+  pub short_scratch : length image ≡ memory_words → length scratch < scratch_words → Done (failed_with 2 0) image
   unfolding result_on answer_of image_after
   short_scratch h l = done (Result.failed 2 0) (rw (eq-eqb _ _ h, lt-leb _ _ l)) (refl, refl)
 
@@ -145,7 +126,7 @@ module _ (source image scratch : List ℕ) where
   unfolding result_on
   compiles h l = rw (eq-eqb _ _ h, le-leb _ _ l)
 
-  pub long_source : length image ≡ memory_words → scratch_words ≤ length scratch → 8192 < length source → Done (Answer.Failed 3 0) image
+  pub long_source : length image ≡ memory_words → scratch_words ≤ length scratch → 8192 < length source → Done (failed_with 3 0) image
   unfolding compile_def parse_program result_of answer_of image_after
   long_source h l b = done (Result.failed 3 0) (compiles h l ∙ rw (lt-leb _ _ b)) (refl, refl)
 

@@ -6,8 +6,7 @@ use native.Mathlib.Omega.{arith}
 use borrow.Author.Tests.{le-leb}
 use lib.ListN.{length}
 use Rattle.compilation.specs.Compile.{Result}
-use Rattle.compiler.specs.declared.Answer.{Answer}
-use Rattle.compiler.specs.Compile.{scratch_words, result_on, answer_of, image_after}
+use Rattle.compiler.specs.Compile.{scratch_words, result_on, answer_of, image_after, Answer, failed_with}
 use Rattle.compiler.specs.DemandOne.{CompileEnds}
 use Rattle.compiler.specs.ScratchLaws.{ScratchLaws}
 use Rattle.compiler.proofs.ReadingLaws.{compiles, short_scratch}
@@ -20,7 +19,7 @@ unfolding result_on
 one_result source image scratch₁ scratch₂ l m = rw (le-leb _ _ l, le-leb _ _ m)
 
 -- how a call that answers 2 has ended
-only_two : {source image scratch image' : List ℕ} {r : Answer} {at : ℕ} → CompileEnds source image scratch r image' → r ≡ Answer.Failed 2 at
+only_two : {source image scratch image' : List ℕ} {r : Answer} {at : ℕ} → CompileEnds source image scratch r image' → r ≡ failed_with 2 at
     → (length image ≡ memory_words) × (length scratch < scratch_words)
 only_two (CompileEnds.wrong_image l e i) q = let z : ◌≡◌ {A = ℕ} 1 2 = cc in absurd (omega arith)
 only_two (CompileEnds.short_scratch l s e i) q = (l, s)

@@ -1,8 +1,11 @@
 -- What `compile` answers, and what it leaves in the lent words.
-use Rattle.std.specs.Prelude.{ℕ, ◌≡◌, List, eqb, leb, length, replicate}
+use Rattle.std.specs.Prelude.{ℕ, ◌≡◌, List, eqb, leb, length, replicate, Ok, Err}
+use Rattle.std.specs.Prelude.{Result as Answered}
 use Rattle.prelude.specs.Choice.{whether}
 use Rattle.compilation.specs.Compile.{Result, compile_def}
-use Rattle.compiler.specs.declared.Answer.{Answer}
+use Rattle.parser.specs.declared.Failure.{Failure}
+use Rattle.parser.specs.Failures.{cause_of}
+use Rattle.compiler.specs.declared.Program.{Program}
 use Rattle.layout.specs.Addresses.{memory_words}
 
 -- how much scratch a compile asks for (F2)
@@ -16,10 +19,25 @@ result_on source image scratch =
     (λ _. whether (leb scratch_words (length scratch)) (λ _. compile_def source) (λ _. Result.failed 2 0))
     (λ _. Result.failed 1 0)
 
+-- ---- The code's answer
+
+abbrev pub Answer : Type 0
+Answer = Answered Program Failure
+
+-- the failure of a number, at an offset
+abbrev pub failure_with : ℕ → ℕ → Failure
+failure_with n at = record { cause = cause_of n; at = at }
+
+abbrev pub accepted_with : ℕ → ℕ → ℕ → Answer
+accepted_with entry words globals = Ok (record { entry = entry; words = words; globals = globals })
+
+abbrev pub failed_with : ℕ → ℕ → Answer
+failed_with n at = Err (failure_with n at)
+
 -- the values of each case of the answer: entry and the two counts (A11), or the failure's number and offset (C5)
 unfoldable pub answer_of : Result → Answer
-answer_of (Result.accepted c) = Answer.Accepted c.entry c.words c.globals
-answer_of (Result.failed n at) = Answer.Failed n at
+answer_of (Result.accepted c) = accepted_with c.entry c.words c.globals
+answer_of (Result.failed n at) = failed_with n at
 
 -- an accepted source leaves its image; a failed one leaves the image as it was (J13, demand 1c)
 unfoldable pub image_after : Result → List ℕ → List ℕ

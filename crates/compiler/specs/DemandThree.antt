@@ -7,8 +7,7 @@ use Rattle.tree.specs.Tree.{Program}
 use Rattle.compilation.specs.Compile.{Compiled, Result, compile_def}
 use Rattle.semantics.specs.Trace.{State}
 use Rattle.semantics.specs.Agreement.{Loaded, Loads, Agrees}
-use Rattle.compiler.specs.declared.Answer.{Answer}
-use Rattle.compiler.specs.Compile.{CompileCalled}
+use Rattle.compiler.specs.Compile.{CompileCalled, Answer, accepted_with}
 
 -- ---- The calls
 
@@ -40,4 +39,4 @@ pub record Accepted (source image : List ℕ) (entry words globals : ℕ) : Type
 unfoldable pub Demand3Called : Type 0
 Demand3Called =
     (source image scratch image' scratch' : List ℕ) (r : Answer) → CompileCalled source image scratch r image' scratch'
-    → (entry words globals : ℕ) → r ≡ Answer.Accepted entry words globals → Accepted source image' entry words globals
+    → (entry words globals : ℕ) → r ≡ accepted_with entry words globals → Accepted source image' entry words globals

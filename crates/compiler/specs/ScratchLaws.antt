@@ -1,8 +1,7 @@
 -- Demand 2i of docs/DEMANDS.md: what scratch decides of a call of `compile`, and what not.
 use Rattle.std.specs.Prelude.{ℕ, ◌≤◌, ◌<◌, ◌≡◌, List, length}
 use Rattle.compilation.specs.Compile.{compile_def}
-use Rattle.compiler.specs.declared.Answer.{Answer}
-use Rattle.compiler.specs.Compile.{scratch_words, Answers, CompileCalled}
+use Rattle.compiler.specs.Compile.{scratch_words, Answers, CompileCalled, Answer, failed_with}
 use Rattle.layout.specs.Addresses.{memory_words}
 
 -- OF EVERY CALL of `compile`, by its contract (demand 2i)
@@ -16,7 +15,7 @@ pub record ScratchLaws : Type 0 where
       → length image ≡ memory_words → scratch_words ≤ length scratch → Answers (compile_def source) image r image'
   -- with fewer words it is 2 at 0 there, whatever the source, and the image is as it was (F2, J1, J13);
   pub short : {source image scratch image' scratch' : List ℕ} {r : Answer} → CompileCalled source image scratch r image' scratch'
-      → length image ≡ memory_words → length scratch < scratch_words → (r ≡ Answer.Failed 2 0) × (image' ≡ image)
+      → length image ≡ memory_words → length scratch < scratch_words → (r ≡ failed_with 2 0) × (image' ≡ image)
   -- and nothing else is 2 (F2)
   pub only_short : {source image scratch image' scratch' : List ℕ} {r : Answer} → CompileCalled source image scratch r image' scratch'
-      → {at : ℕ} → r ≡ Answer.Failed 2 at → (length image ≡ memory_words) × (length scratch < scratch_words)
+      → {at : ℕ} → r ≡ failed_with 2 at → (length image ≡ memory_words) × (length scratch < scratch_words)

@@ -5,92 +5,71 @@
 ghost use Rattle.std.specs.Prelude.{◌≡◌, ◌≤◌, length, replicate};
 ghost use Rattle.layout.specs.Addresses.{memory_words};
 ghost use Rattle.compilation.specs.Compile.{compile_def};
+ghost use Rattle.parser.specs.Failures.{number_of};
 ghost use Rattle.declarations.specs.Scopes.{table_words};
-ghost use Rattle.compiler.specs.Compile.{result_on, Answers, CompileCalled};
-ghost use Rattle.compiler.specs.Readings.{counted_of, answered_of};
+ghost use Rattle.compiler.specs.Compile.{result_on, failure_with, Answers, CompileCalled};
+ghost use Rattle.compiler.specs.Readings.{counted_of};
 
 use declarations::program::{TABLE_WORDS, program};
-use declarations::{ProgramAnswer, SectorEnds, with_end};
-use emitter::held_count;
+use declarations::{Reading, SectorEnds, with_end};
 use layout::addresses;
 use layout::addresses::MEMORY_WORDS;
-use machine::failure::WRONG_IMAGE;
-use parser::Part;
-use parser::failures::SHORT_SCRATCH;
+use parser::{Cause, Failure, Part};
 
 pub mod demand;
 
-// How much scratch `compile` asks for (F2).
+/// How much scratch `compile` asks for (F2).
 pub const SCRATCH_WORDS: usize = 6144;
 
 const SOURCE_BYTES: usize = 8192;
 
-// The failure of a text over SOURCE_BYTES; a wrong image is the machine's failure too, short scratch a table's.
-const LONG_SOURCE: u16 = 3;
-
 // The first address of code.
 const FIRST_CODE: u32 = addresses::FIRST_CODE as u32;
 
-// What a source compiles to: the entry and the counts of words of code and of globals, or a failure's number and offset.
-#[derive(Drop)]
-pub enum Answer {
-    Accepted {
-        entry: u16,
-        words: u16,
-        globals: u16,
-    },
-    Failed {
-        number: u16,
-        at: usize,
-    },
+/// What a source compiles to: the entry, and how many words of code and of globals it has (A11).
+#[derive(Clone, Copy, Debug, PartialEq, Eq)]
+pub struct Program {
+    pub entry: u16,
+    pub words: u16,
+    pub globals: u16,
 }
 
-// Sets every word to 0.
+/// Sets every word to 0.
 pub fn clear(words: &mut [u16])
     ensures { words.new ≡ replicate (length words.old) 0 }
 {
-    let mut i = 0;
-    while i < words.len() {
-        words[i] = 0;
-        i += 1;
-    }
+    words.fill(0);
 }
 
-// The answer for a program that was read.
-fn accepted(read: ProgramAnswer) -> Answer
+// What is answered of a program that was read.
+fn counted(read: Reading) -> Program
     ensures { result ≡ counted_of read }
 {
-    let allocation = read.allocation;
     let end = read.end;
-    let output = allocation.output;
-    let pool = end.pool;
-    let after = end.next as u32 + held_count(pool) as u32;
-    let words = if after < FIRST_CODE {
-        0
-    } else {
-        (after - FIRST_CODE) as u16
-    };
-    Answer::Accepted {
-        entry: output.next,
-        words,
-        globals: allocation.taken,
+    let after = end.next as u32 + end.pool.held_count() as u32;
+    Program {
+        entry: read.allocation.output.next,
+        words: after.saturating_sub(FIRST_CODE) as u16,
+        globals: read.allocation.taken,
     }
 }
 
-// The answer for a program that was read, or the failure that its reading ended in.
-#[tactic(auto, unfolding(crate::specs::Readings::answered_by))]
-fn answered(read: ProgramAnswer) -> Answer
-    ensures { result ≡ answered_of read }
+// A failure by its number: so what is promised of it is an equation, and a caller who matches on the cause has it.
+fn by_number(failure: Failure) -> Failure
+    ensures { result ≡ failure_with (number_of failure.cause) failure.at }
 {
-    let part = read.part;
-    match part {
-        Part::Read { next: _ } => accepted(read),
-        Part::Failed { number, at } => Answer::Failed { number, at },
+    Failure {
+        cause: Cause::from(failure.cause.number()),
+        at: failure.at,
     }
 }
 
 // The two readings. They have the first TABLE_WORDS words of scratch, for the symbol table; the rest is only cleared.
-fn read_twice(source: &[u8], image: &mut [u16], scratch: &mut [u16]) -> Answer
+fn read_twice(
+    source: &[u8],
+    image: &mut [u16],
+    scratch: &mut [u16],
+) -> Result<Program, Failure>
     requires { (length source.now ≤ 8192) × (length image.old ≡ memory_words) × (table_words ≤ length scratch.old) }
     ensures { Answers (compile_def source.now) image.old result image.new }
 {
@@ -104,51 +83,52 @@ fn read_twice(source: &[u8], image: &mut [u16], scratch: &mut [u16]) -> Answer
         &mut image[0..0],
         unplanned,
     );
-    let answer = answered(read);
-    let Answer::Accepted {
-        entry: _,
-        words: _,
-        globals: _,
-    } = answer
-    else {
-        return answer;
+    let Ok(Part { value, next: _ }) = read else {
+        return Err(by_number(read.unwrap_err()));
     };
-    let allocation = read.allocation;
-    let end = read.end;
-    let sectors = allocation.sectors;
-    let plan = with_end(sectors, end.next);
+    let plan = with_end(value.allocation.sectors, value.end.next);
     clear(&mut *image);
-    program(source, &mut scratch[0..TABLE_WORDS], &mut *image, plan);
-    answer
+    // It reads what it read before, now with the pools' addresses.
+    let _again = program(source, &mut scratch[0..TABLE_WORDS], &mut *image, plan);
+    Ok(counted(value))
 }
 
 // The lengths are checked before anything is read.
-fn check_and_compile(source: &[u8], image: &mut [u16], scratch: &mut [u16]) -> Answer
+fn check_and_compile(
+    source: &[u8],
+    image: &mut [u16],
+    scratch: &mut [u16],
+) -> Result<Program, Failure>
     ensures { Answers (result_on source.now image.old scratch.old) image.old result image.new }
 {
     if image.len() != MEMORY_WORDS {
-        return Answer::Failed {
-            number: WRONG_IMAGE,
+        return Err(Failure {
+            cause: Cause::WrongImage,
             at: 0,
-        };
+        });
     }
     if scratch.len() < SCRATCH_WORDS {
-        return Answer::Failed {
-            number: SHORT_SCRATCH,
+        return Err(Failure {
+            cause: Cause::ShortScratch,
             at: 0,
-        };
+        });
     }
     if SOURCE_BYTES < source.len() {
-        return Answer::Failed {
-            number: LONG_SOURCE,
+        return Err(Failure {
+            cause: Cause::LongSource,
             at: 0,
-        };
+        });
     }
     read_twice(source, &mut *image, &mut *scratch)
 }
 
-// Whatever the answer, scratch ends as zeros.
-pub fn compile(source: &[u8], image: &mut [u16], scratch: &mut [u16]) -> Answer
+/// Compiles a source of up to 8,192 bytes into an image of 16,384 words, with SCRATCH_WORDS words of scratch or more (F1 to F3).
+/// A failed source leaves the image as it was (J13). Whatever the answer, scratch ends as zeros.
+pub fn compile(
+    source: &[u8],
+    image: &mut [u16],
+    scratch: &mut [u16],
+) -> Result<Program, Failure>
     ensures { CompileCalled source.now image.old scratch.old result image.new scratch.new }
 {
     let answer = check_and_compile(source, &mut *image, &mut *scratch);

@@ -7,7 +7,6 @@ use native.Mathlib.Omega.{arith}
 use borrow.Author.Tests.{eq-eqb, ne_eqb, lt-ltb, le-ltb, ltb-true}
 use lib.Dec.{eqb, leb, ltb}
 use lib.ListN.{length, set, replicate, length-append}
-use Rattle.parser.specs.Reads.Reads.{read, fails}
 use Rattle.prelude.specs.Choice.{whether}
 use Rattle.source.specs.Kinds
 use Rattle.source.specs.declared.Token.{Token}
@@ -16,7 +15,7 @@ use Rattle.tree.specs.Tree.{Name, Declaration}
 use Rattle.tree.specs.Symbols.{Symbol, Level, Names, declare, words_taken}
 use Rattle.layout.specs.Allocation as layout
 use Rattle.layout.specs.Limits.{name_limit, space_limit}
-use Rattle.grammar.specs.Parse.{Got, and_then, fail_at, within, expect, snoc, separated}
+use Rattle.grammar.specs.Parse.{Got, and_then, fail_at, within, is, expect, snoc, separated}
 use Rattle.grammar.specs.Parse.Got.{got, failed}
 use Rattle.grammar.specs.Cells.{parse_constant, parse_in_range}
 use Rattle.grammar.specs.Declarations.{new_name, size_of, parse_initial, parse_initials}
@@ -24,52 +23,44 @@ use Rattle.symbols.specs.declared.Packed.{Packed}
 use Rattle.symbols.specs.Packing.{unpack}
 use Rattle.symbols.specs.Table as tables
 use Rattle.layout.specs.Emission.{stored, padded, emit_declaration, emit_declarations}
-use Rattle.parser.specs.declared.Part.{Part}
-use Rattle.parser.specs.Answers.{part_of, got_with}
 use Rattle.declarations.specs.declared.Scope.{Scope}
 use Rattle.declarations.specs.declared.Allocation.{Allocation}
 use Rattle.declarations.specs.Declares.{Declares}
 use Rattle.declarations.specs.Scopes.{scope_of}
 use Rattle.declarations.specs.Allocations.{ends_of, pool_of, global_scope, with_global, allocation_of, SoundAllocation, DeclaredAnyPlan, space_number}
-use Rattle.declarations.specs.Values.{initial_value, Filled}
+use Rattle.declarations.specs.Values.{initial_value, StoresValue, Filled}
+use Rattle.declarations.specs.Clauses.{Answer, AllocatesOne, AllocatesAnyPlan, closing_at}
 use Rattle.declarations.proofs.AllocationLaws.{stored_more, more_declared}
 use Rattle.declarations.specs.Forms.{array_head, one_array, array_in}
 use Rattle.parser.proofs.Answers.{then_got, then_failed}
 use Rattle.parser.proofs.ReadLaws.{never, reads_as}
-use Rattle.declarations.proofs.ParseLaws.{then_inv, within_on, within_failed, expect_here, expect_other}
+use Rattle.declarations.proofs.ParseLaws.{then_inv, within_on, within_failed, within_then}
 use Rattle.declarations.proofs.NameLaws.{name_room}
 use Rattle.declarations.proofs.ScopeLaws.{held_more, stored_append}
 use Rattle.declarations.proofs.LimitLaws.{limit_case, space_number_lem, space_fits}
 
--- ---- `]`
-
-module _ (source : List ℕ) (at limit : ℕ) {t : Token} {r : Part} (e : t ≡ token_at source at) where
-  pub closing_other : (t.kind ≡ Kinds.right_bracket → ⊥) → r ≡ part_of {A = ℕ} (fail_at t 6) → r ≡ part_of {A = ℕ} (and_then (expect Kinds.right_bracket source at) (λ u n. within limit u (got 0 n)))
-  unfolding fail_at
-  closing_other k h = h ∙ ap part_of (sym (then_failed _ (expect_other Kinds.right_bracket source at e k)))
-
-  pub closing_on : t.kind ≡ Kinds.right_bracket → r ≡ part_of {A = ℕ} (within limit t (got 0 t.next)) → r ≡ part_of {A = ℕ} (and_then (expect Kinds.right_bracket source at) (λ u n. within limit u (got 0 n)))
-  closing_on k h = h ∙ ap part_of (sym (then_got _ (expect_here Kinds.right_bracket source at e k)))
-
 -- ---- An array's head
 
-pub global_name_lem : (source : List ℕ) (s : Allocation) (table : List ℕ) (t : Token) {scope : Scope} {limit : ℕ} → scope ≡ global_scope s → limit ≡ name_limit (scope_of scope [])
-    → new_name source (scope_of scope table) limit t ≡ new_name source (allocation_of s table).scope (name_limit (allocation_of s table).scope) t
+pub global_name_lem : (source : List ℕ) (s : Allocation) (table : List ℕ) (t : Token) {scope : Scope} → scope ≡ global_scope s
+    → new_name source (scope_of scope table) (name_limit (scope_of scope [])) t ≡ new_name source (allocation_of s table).scope (name_limit (allocation_of s table).scope) t
 unfolding tables.level_of name_limit
-global_name_lem source s table t {scope} e l = ap (λ z. new_name source (scope_of scope table) z t) l ∙ ap (λ z. new_name source (scope_of z table) (name_limit (scope_of z [])) t) e
+global_name_lem source s table t e = ap (λ z. new_name source (scope_of z table) (name_limit (scope_of z [])) t) e
 
 then_assoc : {A B C : Type 0} (x : Got A) (f : A → ℕ → Got B) (g : B → ℕ → Got C) → and_then x (λ a n. and_then (f a n) g) ≡ and_then (and_then x f) g
 unfolding and_then
 then_assoc (got a n) f g = refl
 then_assoc (failed k a) f g = refl
 
-closing_with : {A : Type 0} (x : Got Token) (limit : ℕ) (v : A) → got_with (part_of (and_then x (λ u l. within {A = ℕ} limit u (got 0 l)))) v ≡ and_then x (λ u l. within limit u (got v l))
-unfolding and_then part_of got_with within fail_at
-closing_with (failed k a) limit v = refl
-closing_with (got t l) limit v = go (eqb limit 0)
+-- `]` is the token that stands there
+closing_with : {A : Type 0} (source : List ℕ) (at limit : ℕ) (v : A) → and_then (expect Kinds.right_bracket source at) (λ t n. within limit t (got v n)) ≡ and_then (closing_at source limit at) (λ _ n. got v n)
+unfolding and_then expect fail_at
+closing_with source at limit v = go (is Kinds.right_bracket (token_at source at))
   where
-    go : (b : Bool) → got_with (part_of {A = ℕ} (whether b (λ _. got 0 l) (λ _. fail_at t limit))) v ≡ whether b (λ _. got v l) (λ _. fail_at t limit)
-    go true = refl
+    t : Token
+    t = token_at source at
+
+    go : (b : Bool) → and_then (whether b (λ _. got t t.next) (λ _. fail_at t 6)) (λ u n. within limit u (got v n)) ≡ and_then (and_then (whether b (λ _. got t t.next) (λ _. fail_at t 6)) (λ u _. within limit u (got u u.next))) (λ _ n. got v n)
+    go true = sym (within_then limit t (got t t.next) (λ _ n. got v n))
     go false = refl
 
 -- the rest of a head, after its name
@@ -89,15 +80,10 @@ module _ (source : List ℕ) (st : layout.Allocation) (at : ℕ) where
     pub head_size : {k a : ℕ} → and_then (expect Kinds.left_bracket source n) (λ _ m. parse_in_range source st.scope.names (λ v. leb (size_of v) 8192) m) ≡ failed k a → array_head source st at ≡ failed k a
     head_size h = head_on ∙ then_failed _ h
 
-    pub head_closing : (r : Part) (v k size : ℕ) → size ≡ size_of v
-        → and_then (expect Kinds.left_bracket source n) (λ _ m. parse_in_range source st.scope.names (λ v. leb (size_of v) 8192) m) ≡ got v k
-        → r ≡ part_of {A = ℕ} (and_then (expect Kinds.right_bracket source k) (λ u l. within (space_number (st.next + length st.pool + size) st.array) u (got 0 l)))
-        → got_with r (name, size) ≡ array_head source st at
+    pub head_closing : {v k : ℕ} → and_then (expect Kinds.left_bracket source n) (λ _ m. parse_in_range source st.scope.names (λ v. leb (size_of v) 8192) m) ≡ got v k
+        → array_head source st at ≡ and_then (closing_at source (space_number (st.next + length st.pool + size_of v) st.array) k) (λ _ l. got (name, size_of v) l)
     unfolding head_rest space_limit space_number
-    head_closing r v k size q h i =
-        ap (λ x. got_with x (name, size)) i ∙ closing_with (expect Kinds.right_bracket source k) (space_number (st.next + length st.pool + size) st.array) (name, size)
-        ∙ ap (λ z. and_then (expect Kinds.right_bracket source k) (λ u l. within (space_number (st.next + length st.pool + z) st.array) u (got (name, z) l))) q
-        ∙ sym (head_on ∙ then_got _ h)
+    head_closing {v} {k} h = head_on ∙ then_got _ h ∙ closing_with source k (space_number (st.next + length st.pool + size_of v) st.array) (name, size_of v)
 
 -- a head that was read has room for its name and its words
 pub record Roomy (st : layout.Allocation) (size : ℕ) : Type 0 where
@@ -125,27 +111,13 @@ head_room source st at {name} {size} {n} e =
 -- ---- Initial values
 
 module _ (source : List ℕ) (names : Names) (size at : ℕ) where
-  module _ (count : ℕ) where
-    pub value_failed : {k a : ℕ} → parse_constant source names at ≡ failed k a → initial_value source names size count at ≡ failed k a
-    unfolding initial_value
-    value_failed e = then_failed _ e
-
-    module _ {v n : ℕ} (e : parse_constant source names at ≡ got v n) where
-      pub value_many : size ≤ count → initial_value source names size count at ≡ fail_at (token_at source at) 14
-      unfolding initial_value
-      value_many h = then_got _ e ∙ rw (le-ltb count size h)
-
-      pub value_got : count < size → initial_value source names size count at ≡ got v n
-      unfolding initial_value
-      value_got h = then_got _ e ∙ rw (lt-ltb count size h)
-
-    pub value_room : {v n : ℕ} → initial_value source names size count at ≡ got v n → count < size
-    unfolding initial_value fail_at
-    value_room {v} {n} e = let a = then_inv _ _ e in go (ltb count size) refl a.0 a.1 a.3
-      where
-        go : (b : Bool) → ltb count size ≡ b → (w m : ℕ) → whether b (λ _. got w m) (λ _. fail_at (token_at source at) 14) ≡ got v n → count < size
-        go true q w m h = ltb-true count size q
-        go false q w m h = absurd (never h refl)
+  pub value_room : (count : ℕ) {v n : ℕ} → initial_value source names size count at ≡ got v n → count < size
+  unfolding initial_value fail_at
+  value_room count {v} {n} e = let a = then_inv _ _ e in go (ltb count size) refl a.0 a.1 a.3
+    where
+      go : (b : Bool) → ltb count size ≡ b → (w m : ℕ) → whether b (λ _. got w m) (λ _. fail_at (token_at source at) 14) ≡ got v n → count < size
+      go true q w m h = ltb-true count size q
+      go false q w m h = absurd (never h refl)
 
   -- with the values before it
   module _ (values : List ℕ) {count : ℕ} (l : length values ≡ count) where
@@ -207,11 +179,11 @@ module _ (source : List ℕ) (checked : Bool) (st : layout.Allocation) (at : ℕ
     array_on h = then_got _ e ∙ then_got _ h
 
 -- an array after those that are done
-pub array_next : (source : List ℕ) (checked : Bool) (at : ℕ) {s s' s'' : Allocation} {t t' t'' i i' i'' : List ℕ} {done : List Declaration} {part : Part} → DeclaredAnyPlan s t i s' t' i' done
-    → Declares (λ d. DeclaredAnyPlan s' t' i' s'' t'' i'' (d ∷ [])) part (one_array source checked (allocation_of s' t') at) → Declares (DeclaredAnyPlan s t i s'' t'' i'') part (array_in source checked (allocation_of s t) done at)
+pub array_next : (source : List ℕ) (checked : Bool) (at : ℕ) {s s' : Allocation} {t t' t'' i i' i'' : List ℕ} {done : List Declaration} {r : Answer Allocation} → DeclaredAnyPlan s t i s' t' i' done
+    → AllocatesOne s' t' i' r t'' i'' (one_array source checked (allocation_of s' t') at) → AllocatesAnyPlan s t i r t'' i'' (array_in source checked (allocation_of s t) done at)
 unfolding array_in
 array_next source checked at {done = done} p r =
-    reads_as (snoc done) r refl (ap (λ z. and_then (one_array source checked z at) (λ d n. got (snoc done d) n)) (sym (p (λ _. 0)).allocation)) (λ d h ends. more_declared (p ends) (h ends)) (λ w. w)
+    reads_as (snoc done) r (ap (λ z. and_then (one_array source checked z at) (λ d n. got (snoc done d) n)) (sym (p (λ _. 0)).allocation)) (λ d x h ends. more_declared (p ends) (h ends)) (λ w. w)
 
 -- declared
 module _ (s : Allocation) (t u image between after : List ℕ) (name : Packed) (size : ℕ) (checked : Bool) (values : List ℕ) where
@@ -240,16 +212,6 @@ more_filled {first} {size} {count} v {image} {now} {after} {values} f h e =
     record { laid = stored_more image first values v count f.counted f.laid e; counted = length-append values (v ∷ []) ∙ ap (λ k. k + 1) f.counted; few = omega arith }
 
 -- a value after those that are done
-module _ (source : List ℕ) (names : Names) (at : ℕ) {first size count : ℕ} {image now values : List ℕ} {part : Part} (f : Filled first size image count now values) where
-  pub value_next : {v n : ℕ} {after : List ℕ} → initial_value source names size count at ≡ got v n → part ≡ Part.Read n → after ≡ set now (first + count) v
-      → Declares (Filled first size image (count + 1) after) part (parse_initial source names size values at)
-  value_next {v} e p h = read (more_values source names size at values f.counted ∙ then_got _ e) p (more_filled v f (value_room source names size at count e) h)
-
-  pub value_fails : {held : List ℕ → Type 0} {k a : ℕ} → initial_value source names size count at ≡ failed k a → part ≡ Part.Failed k a → Declares held part (parse_initial source names size values at)
-  value_fails e p = fails (more_values source names size at values f.counted ∙ then_failed _ e) p tt
-
-pub ruleset for_array = (head_room, array_head_lem, array_values, array_on, array_declared)
-
-pub ruleset for_closing = (closing_other, closing_on)
-
-pub ruleset for_values = (value_room, none_filled, value_next, value_fails)
+pub value_next : (source : List ℕ) (names : Names) (at : ℕ) {first size count : ℕ} {image now after values : List ℕ} {r : Answer ℕ} → Filled first size image count now values
+    → Declares (StoresValue first size count now after) r (initial_value source names size count at) → Declares (λ vs n. Filled first size image n after vs) r (parse_initial source names size values at)
+value_next source names at {values = values} f h = reads_as (snoc values) h (more_values source names _ at values f.counted) (λ v n s. rw s.counted (more_filled v f s.few s.laid)) (λ w. w)

@@ -23,14 +23,17 @@ use Rattle.grammar.specs.Cells.{parse_in_range}
 use Rattle.grammar.specs.Statements.{parse_outermost}
 use Rattle.grammar.specs.Declarations.{ItemKeyword, new_name, size_of, parse_item, parse_list, parse_local, parse_locals, parse_global, parse_initials, parse_array, parse_limited, parse_procedure, parse_accumulator, declaration_keywords, more_declarations, parse_declarations}
 use Rattle.grammar.specs.Program.{parse_main}
-use Rattle.parser.specs.declared.Part.{Part}
 use Rattle.declarations.specs.declared.Allocation as code
-use Rattle.declarations.specs.Declares.{Declares}
-use Rattle.declarations.specs.Allocations.{allocation_of, Declared}
-use Rattle.declarations.specs.Forms.{declarations_of, begins, items_in, array_head, one_array, array_in, arrays_in, limited_in, heading_in, body_in, procedure_in, accumulator_in, declaration_in}
-use Rattle.declarations.specs.Procedures.{keyword_of, main_in}
-use Rattle.declarations.proofs.ListLaws.{keyword_none, mapped, then_mapped, map_list}
+use Rattle.declarations.specs.declared.SectorEnds.{SectorEnds}
+use Rattle.declarations.specs.Clauses.{Answer, Allocates}
+use Rattle.declarations.specs.Allocations.{end_of, allocation_of, Declared}
+use Rattle.declarations.specs.Forms.{declarations_of, items_in, array_head, one_array, array_in, arrays_in, limited_in}
+use Rattle.declarations.specs.Forms.{begins, heading_in, body_in, procedure_in, accumulator_in, declaration_in}
+use Rattle.declarations.specs.Scopes.{keyword_of}
+use Rattle.declarations.specs.Procedures.{main_in}
+use Rattle.declarations.proofs.ListLaws.{mapped, then_mapped, map_list}
 use Rattle.parser.proofs.ReadLaws.{Turning, reads_as}
+use Rattle.declarations.proofs.GlobalLaws.{items_allocation}
 use Rattle.declarations.proofs.AllocationLaws.{more_declared}
 
 -- ---- Results
@@ -54,11 +57,6 @@ within_into limit t x y h e = go (eqb limit 0)
 pub after_more : (ds new : List Declaration) → foldl allocate (allocated ds) new ≡ allocated (ds ++ new)
 unfolding allocated
 after_more ds new = sym (foldl-append allocate start ds new)
-
-pub items_allocation : (st : Allocation) (a : List (Name × Item)) → foldl allocate st (declarations_of a) ≡ with_scope st (foldl declare_item st.scope a)
-unfolding declarations_of allocate
-items_allocation st [] = refl
-items_allocation st (x ∷ xs) = items_allocation (with_scope st (declare_item st.scope x)) xs
 
 declarations_append : (a b : List (Name × Item)) → declarations_of (a ++ b) ≡ declarations_of a ++ declarations_of b
 unfolding declarations_of
@@ -256,11 +254,15 @@ module _ (source : List ℕ) (checked : Bool) (ds : List Declaration) (at : ℕ)
   declaration_some h = rw (← e) (token_some source checked ds t h)
 
 -- with the allocation that the code has
-pub declaration_next : (source : List ℕ) (checked : Bool) (u : Token) {ends : ℕ → ℕ} {s s' s'' : code.Allocation} {t t' t'' i i' i'' : List ℕ} {done : List Declaration} {part : Part} → allocation_of s t ≡ start → Declared ends s t i s' t' i' done
-    → Declares (Declared ends s' t' i' s'' t'' i'') part (declaration_in source checked (allocation_of s' t') u) → Declares (Declared ends s t i s'' t'' i'') part (mapped (λ new. done ++ new) (declaration_in source checked (allocated done) u))
+pub declaration_next : (source : List ℕ) (checked : Bool) (u : Token) (plan : SectorEnds) {s s' : code.Allocation} {t t' t'' i i' i'' : List ℕ} {done : List Declaration} {r : Answer code.Allocation} → allocation_of s t ≡ start → Declared (end_of plan) s t i s' t' i' done
+    → Allocates s' t' i' plan r t'' i'' (declaration_in source checked (allocation_of s' t') u) → Allocates s t i plan r t'' i'' (mapped (λ new. done ++ new) (declaration_in source checked (allocated done) u))
 unfolding allocated
-declaration_next source checked u {done = done} e p r =
-    reads_as (λ new. done ++ new) r refl (ap (λ st. mapped (λ new. done ++ new) (declaration_in source checked st u)) (sym (p.allocation ∙ ap (λ x. foldl allocate x done) e))) (λ new d. more_declared p d) (λ w. w)
+declaration_next source checked u plan {done = done} e p r =
+    reads_as (λ new. done ++ new) r (ap (λ st. mapped (λ new. done ++ new) (declaration_in source checked st u)) (sym (p.allocation ∙ ap (λ x. foldl allocate x done) e))) (λ new x d. more_declared p d) (λ w. w)
+
+keyword_none : {kind : ℕ} → (kind ≡ 24 → ⊥) → (kind ≡ 25 → ⊥) → (kind ≡ 26 → ⊥) → none ≡ keyword_of kind
+unfolding keyword_of find
+keyword_none n m l = rw (ne_eqb _ _ n, ne_eqb _ _ m, ne_eqb _ _ l)
 
 -- ---- The forms, by the token
 
@@ -318,5 +320,3 @@ main_def source checked ds at =
     ∙ into (expect Kinds.END source n) _ done _ (λ last _.
     within_into (main_limit (allocated ds) main) last (and_then (expect Kinds.end_of_source source last.next) (λ _ next. got main next)) _ done
     (into (expect Kinds.end_of_source source last.next) (λ _ next. got main next) done _ (λ _ next. refl))))
-
-pub ruleset for_declarations = (declarations_first, declaration_none, declaration_some, declaration_next)

@@ -18,28 +18,25 @@ use Rattle.source.specs.Kinds
 use Rattle.tree.specs.Tree.{Declaration, Operand}
 use Rattle.layout.specs.Limits.{space_limit, sector_limit, follow_limit, declaration_limit}
 use Rattle.declarations.specs.Forms.{limited_in}
-use Rattle.parser.specs.declared.Part.{Part}
-use Rattle.parser.specs.Answers.{part_of}
+use Rattle.std.specs.Prelude.{Result, Ok, Err}
+use Rattle.parser.specs.declared.Cause.{Cause}
+use Rattle.declarations.specs.Scopes.{Limits}
+use Rattle.declarations.specs.Clauses.{limit_then_expect}
 use Rattle.declarations.specs.Allocations.{allocation_of, space_number, sector_number}
-use Rattle.parser.proofs.Answers.{part_read, part_failed}
 use Rattle.parser.proofs.ReadLaws.{never}
-use Rattle.declarations.proofs.ParseLaws.{within_on, within_failed}
+use Rattle.declarations.proofs.ParseLaws.{then_inv, within_failed, within_then}
 use Rattle.layout.specs.Words.{Sym}
 use Rattle.layout.specs.Pool.{literal_of, literals_of, index_of, added, added_all}
 use Rattle.layout.specs.Emission.{Emitted, Bases, last_address, with_word, with_literal, with_literals, emit_word, emit_all}
 use Rattle.emitter.specs.Lays.{WordsAt, Lays}
 
+pub in_limits : {X : Type 0} {r : Result X Cause} {x : X} (n : ℕ) → Limits r n → r ≡ Ok x → n ≡ 0
+in_limits {r = Ok y} n h e = h
+in_limits {r = Err c} n h e = absurd (let z : ◌≡◌ {A = ℕ} 0 1 = cc in omega arith)
+
 -- ---- The numbers
 
 module _ (words array : ℕ) where
-  pub space_on : words ≤ array → 0 ≡ space_number words array
-  unfolding space_number
-  space_on h = rw (le-leb words array h)
-
-  pub space_over : array < words → 13 ≡ space_number words array
-  unfolding space_number
-  space_over h = rw (lt-leb words array h)
-
   pub space_fits : space_number words array ≡ 0 → words ≤ array
   unfolding space_number
   space_fits h = go (leb words array) refl h
@@ -49,10 +46,6 @@ module _ (words array : ℕ) where
       go false e k = absurd (omega arith)
 
   module _ (sectors : ℕ) where
-    pub sector_on : words ≤ 512 * (sectors + 2) → sector_number words sectors array ≡ space_number words array
-    unfolding sector_number
-    sector_on h = rw (le-leb words (512 * (sectors + 2)) h)
-
     pub sector_over : 512 * (sectors + 2) < words → sector_number words sectors array ≡ 12
     unfolding sector_number
     sector_over h = rw (lt-leb words (512 * (sectors + 2)) h)
@@ -79,17 +72,21 @@ module _ (st : Allocation) where
       let q : st.next + length st.pool + 0 ≡ st.next + length st.pool = omega arith in
       rw (q, e, p)
 
-  pub follow_limit_lem : (n : ℕ) → (n ≡ 0 → ⊥) → n ≡ follow_limit st n
+  follow_on_lem : (n : ℕ) → 0 < n → follow_limit st n ≡ n
   unfolding follow_limit
-  follow_limit_lem zero h = absurd (h refl)
-  follow_limit_lem (suc n) h = refl
+  follow_on_lem zero h = absurd (omega arith)
+  follow_on_lem (suc n) h = refl
+
+  pub follow_passed : {X : Type 0} {r : Result X Cause} {e : Cause} (n : ℕ) → Limits r n → r ≡ Err e → Limits r (follow_limit st n)
+  follow_passed {r = Ok x} n h e = absurd (let z : ◌≡◌ {A = ℕ} 0 1 = cc in omega arith)
+  follow_passed {r = Err c} n h e = let q = follow_on_lem n h.1 in (q ∙ h.0, rw q h.1)
 
   module _ {sectors : ℕ} (e : length st.ends ≡ sectors) where
-    pub follow_on : {n : ℕ} → n ≡ 0 → sectors < 30 → 0 ≡ follow_limit st n
+    pub follow_on : {n : ℕ} → n ≡ 0 → sectors < 30 → follow_limit st n ≡ 0
     unfolding follow_limit
     follow_on z h = rw (z, e, lt-ltb (suc sectors) 31 (omega arith))
 
-    pub follow_none : {n : ℕ} → n ≡ 0 → 30 ≤ sectors → 13 ≡ follow_limit st n
+    pub follow_none : {n : ℕ} → n ≡ 0 → 30 ≤ sectors → follow_limit st n ≡ 13
     unfolding follow_limit
     follow_none z h = rw (z, e, le-ltb (suc sectors) 31 (omega arith))
 
@@ -112,69 +109,22 @@ limit_case {C} limit f g = go (eqb limit 0) refl
     go true e = f (eqb-true _ _ e)
     go false e = g (eqb-false _ _ e)
 
-module _ {r : Part} (limit : ℕ) (t : Token) where
-  pub passed_read : {n : ℕ} → r ≡ part_of {A = ℕ} (within limit t (got 0 t.next)) → r ≡ Part.Read n → (limit ≡ 0) × (t.next ≡ n)
-  unfolding fail_at
-  passed_read {n} h e =
-      let p = part_read (within limit t (got 0 t.next)) h e in
-      limit_case limit (λ z. (z, next_is (sym (within_on limit t (got 0 t.next) z) ∙ p.is))) (λ z. absurd (never p.is (within_failed limit t (got 0 t.next) z)))
-    where
-      next_is : {v : ℕ} → ◌≡◌ {A = Got ℕ} (got 0 t.next) (got v n) → t.next ≡ n
-      next_is q = cc
-
-  pub passed_failed : {A : Type 0} {k a : ℕ} (g : Got A) → r ≡ part_of {A = ℕ} (within limit t (got 0 t.next)) → r ≡ Part.Failed k a → within limit t g ≡ failed k a
-  unfolding fail_at
-  passed_failed {A} {k} {a} g h e =
-      let p = part_failed (within limit t (got 0 t.next)) h e in
-      limit_case limit (λ z. absurd (never (within_on limit t (got 0 t.next) z) p)) (λ z. same (within_failed limit t g z) (sym (within_failed limit t (got 0 t.next) z) ∙ p))
-    where
-      same : {x y : ℕ} → within limit t g ≡ failed x y → ◌≡◌ {A = Got ℕ} (failed x y) (failed k a) → within limit t g ≡ failed k a
-      same {x} {y} q w = let i : x ≡ k = cc in let j : y ≡ a = cc in q ∙ ap₂ (λ u v. failed u v) i j
-
-part_then : {A : Type 0} (x : Got A) → part_of x ≡ part_of {A = ℕ} (and_then x (λ _ n. got 0 n))
-unfolding part_of and_then
-part_then (got t n) = refl
-part_then (failed k a) = refl
-
-pub limited_on : {r : Part} (limit : ℕ) (t : Token) (kind : ℕ) (source : List ℕ) {n : ℕ} → limit ≡ 0 → t.next ≡ n → r ≡ part_of (expect kind source n) → r ≡ part_of {A = ℕ} (within limit t (and_then (expect kind source t.next) (λ _ m. got 0 m)))
-limited_on limit t kind source z e h = h ∙ ap (λ m. part_of (expect kind source m)) (sym e) ∙ part_then (expect kind source t.next) ∙ ap part_of (sym (within_on limit t (and_then (expect kind source t.next) (λ _ m. got 0 m)) z))
+-- a part behind a limit was read: it is not passed
+pub not_passed : {A B : Type 0} (limit : ℕ) (t : Token) (g : Got A) (f : A → ℕ → Got B) {x : B} {n : ℕ} → and_then (within limit t g) f ≡ got x n → limit ≡ 0
+unfolding fail_at
+not_passed limit t g f e = let r = then_inv _ _ e in limit_case limit (λ z. z) (λ z. absurd (never r.2 (within_failed limit t g z)))
 
 -- a judged token and what follows it, with whatever was read
-limited_as : {A B : Type 0} (limit : ℕ) (t : Token) (x : Got B) (v : A) → part_of (within limit t (and_then x (λ _ n. got v n))) ≡ part_of {A = ℕ} (within limit t (and_then x (λ _ n. got 0 n)))
-unfolding within fail_at and_then part_of
-limited_as {A} {B} limit t x v = go (eqb limit 0) x
-  where
-    go : (b : Bool) (x : Got B) → part_of (whether b (λ _. and_then x (λ _ n. got v n)) (λ _. fail_at t limit)) ≡ part_of {A = ℕ} (whether b (λ _. and_then x (λ _ n. got 0 n)) (λ _. fail_at t limit))
-    go true (got b n) = refl
-    go true (failed k a) = refl
-    go false x = refl
+pub limited_then : {A : Type 0} (limit : ℕ) (t : Token) (kind : ℕ) (source : List ℕ) (v : A) → within limit t (and_then (expect kind source t.next) (λ _ n. got v n)) ≡ and_then (limit_then_expect source limit t kind) (λ _ n. got v n)
+unfolding and_then
+limited_then limit t kind source v =
+    sym (ap (λ g. and_then g (λ _ n. got v n)) (within_then limit t (got t t.next) (λ _ n. expect kind source n)) ∙ within_then limit t (expect kind source t.next) (λ _ n. got v n))
 
-module _ {A B : Type 0} {r : Part} (limit : ℕ) (t : Token) (x : Got B) (v : A) (h : r ≡ part_of {A = ℕ} (within limit t (and_then x (λ _ n. got 0 n)))) where
-  pub limited_failed : {k a : ℕ} → r ≡ Part.Failed k a → within limit t (and_then x (λ _ n. got v n)) ≡ failed k a
-  limited_failed e = part_failed _ (h ∙ sym (limited_as limit t x v)) e
-
-  pub limited_limit : {n : ℕ} → r ≡ Part.Read n → limit ≡ 0
-  unfolding fail_at
-  limited_limit e =
-      let p = part_read _ h e in
-      limit_case limit (λ z. z) (λ z. absurd (never p.is (within_failed limit t (and_then x (λ _ n. got 0 n)) z)))
-
-  pub limited_read : {n : ℕ} → r ≡ Part.Read n → within limit t (and_then x (λ _ n. got v n)) ≡ got v n
-  unfolding and_then
-  limited_read {n} e =
-      let z = limited_limit e in
-      within_on limit t _ z ∙ go x (part_read _ (h ∙ sym (limited_as limit t x v)) e).is z
-    where
-      go : (x : Got B) {w : A} → within limit t (and_then x (λ _ n. got v n)) ≡ got w n → limit ≡ 0 → and_then x (λ _ n. got v n) ≡ got v n
-      go (got b m) p z = let q : got v m ≡ got _ n = sym (within_on limit t (got v m) z) ∙ p in let i : m ≡ n = cc in ap (got v) i
-      go (failed k a) p z = absurd (never p (within_on limit t (failed k a) z))
+pub next_limited : (source : List ℕ) (st : Allocation) (t : Token) → limited_in source st Declaration.next_sector t ≡ and_then (limit_then_expect source (follow_limit st (sector_limit st)) t Kinds.semicolon) (λ _ n. got (Declaration.next_sector ∷ []) n)
+unfolding limited_in declaration_limit
+next_limited source st t = limited_then (follow_limit st (sector_limit st)) t Kinds.semicolon source (Declaration.next_sector ∷ [])
 
 -- `.NEXTSECTOR`'s limit does not turn on the names
-pub next_limited : (source : List ℕ) (st : Allocation) (t : Token) {limit : ℕ} → limit ≡ follow_limit st (sector_limit st)
-    → limited_in source st Declaration.next_sector t ≡ within limit t (and_then (expect Kinds.semicolon source t.next) (λ _ n. got (Declaration.next_sector ∷ []) n))
-unfolding limited_in declaration_limit
-next_limited source st t e = ap (λ l. within l t (and_then (expect Kinds.semicolon source t.next) (λ _ n. got (Declaration.next_sector ∷ []) n))) (sym e)
-
 follow_any : (st st' : Allocation) (n : ℕ) → st.ends ≡ st'.ends → follow_limit st n ≡ follow_limit st' n
 unfolding follow_limit
 follow_any st st' zero e = rw e
@@ -317,8 +267,4 @@ module _ {f : Bases} {a b : Emitted} {w : WordsAt} (lays : Lays f a b w) (sector
           let q = ap length p in
           record { all = lays.fits h; next = n; pool = p; used = omega (arith, n, q, grown); fits = l }
 
-pub ruleset for_limit_then_expect = (passed_read, passed_failed, limited_on)
-
-pub ruleset for_sector_limit = (sector_on, sector_over)
-
-pub ruleset for_space_limit = (space_on, space_over)
+pub ruleset for_sector_limit = (sector_over)

@@ -5,7 +5,6 @@ use mathlib.Core.Bool.{Bool, true, false}
 use mathlib.Core.List.{List, [], ◌∷◌, ◌++◌, foldl, foldl-append, append_assoc, append-nil}
 use mathlib.Core.Option.{Option, none, some}
 use lib.ListN.{length}
-use borrow.Author.Tests.{eq-eqb, ne_eqb}
 use lib.Dec.{eqb}
 use Rattle.prelude.specs.Choice.{whether, given, find}
 use Rattle.source.specs.Kinds
@@ -17,11 +16,9 @@ use Rattle.grammar.specs.Declarations.{parse_list, ItemKeyword, item_keywords, p
 use Rattle.parser.proofs.ReadLaws.{Turning, reads_as}
 use Rattle.tree.specs.Tree.{Name, Item}
 use Rattle.tree.specs.Symbols.{Scope, declare_item}
-use Rattle.parser.specs.declared.Part.{Part}
 use Rattle.declarations.specs.declared.Scope as code
-use Rattle.declarations.specs.Declares.{Declares}
-use Rattle.declarations.specs.Scopes.{scope_of, ItemsDeclared}
-use Rattle.declarations.specs.Procedures.{keyword_of}
+use Rattle.declarations.specs.Clauses.{Answer, DeclaresItems}
+use Rattle.declarations.specs.Scopes.{scope_of, keyword_of, ItemsDeclared}
 use Rattle.declarations.proofs.ScopeLaws.{more_scoped}
 
 -- the same result, with what was read put otherwise
@@ -82,25 +79,6 @@ module _ {A B : Type 0} (f : A → B) where
 
 -- ---- The word of a token
 
-module _ {kind : ℕ} where
-  pub keyword_integer : kind ≡ Kinds.INTEGER → some ItemKeyword.integer ≡ keyword_of kind
-  unfolding keyword_of find
-  keyword_integer e = rw (eq-eqb _ _ e)
-
-  module _ (n : kind ≡ Kinds.INTEGER → ⊥) where
-    pub keyword_constant : kind ≡ Kinds.CONSTANT → some ItemKeyword.constant ≡ keyword_of kind
-    unfolding keyword_of find
-    keyword_constant e = rw (ne_eqb _ _ n, eq-eqb _ _ e)
-
-    module _ (m : kind ≡ Kinds.CONSTANT → ⊥) where
-      pub keyword_compconstant : kind ≡ Kinds.COMPCONSTANT → some ItemKeyword.compconstant ≡ keyword_of kind
-      unfolding keyword_of find
-      keyword_compconstant e = rw (ne_eqb _ _ n, ne_eqb _ _ m, eq-eqb _ _ e)
-
-      pub keyword_none : (kind ≡ Kinds.COMPCONSTANT → ⊥) → none ≡ keyword_of kind
-      unfolding keyword_of find
-      keyword_none e = rw (ne_eqb _ _ n, ne_eqb _ _ m, ne_eqb _ _ e)
-
 as_word : {B : Type 0} (kind : ℕ) (f : ItemKeyword → B) (g : Unit {0} → B) → given (find (eqb kind) item_keywords) (λ row. f row.1) g ≡ given (keyword_of kind) f g
 unfolding keyword_of
 as_word {B} kind f g = go (find (eqb kind) item_keywords)
@@ -136,9 +114,9 @@ module _ (source : List ℕ) (scope : Scope) (word : ItemKeyword) (done : List (
       ap (λ d. parse_list source (parse_local source scope word) d at) (sym (append-nil done))
       ∙ map_list (λ items. done ++ items) source (parse_local source (foldl declare_item scope done) word) (parse_local source scope word) one_more [] at
 
-pub locals_next : (source : List ℕ) (word : ItemKeyword) (at : ℕ) {s s' s'' : code.Scope} {t t' t'' i i' i'' : List ℕ} {done : List (Name × Item)} {part : Part} → ItemsDeclared s t i s' t' i' done
-    → Declares (ItemsDeclared s' t' i' s'' t'' i'') part (parse_list source (parse_local source (scope_of s' t') word) [] at) → Declares (ItemsDeclared s t i s'' t'' i'') part (parse_list source (parse_local source (scope_of s t) word) done at)
+pub locals_next : (source : List ℕ) (word : ItemKeyword) (at : ℕ) {s s' : code.Scope} {t t' t'' i i' i'' : List ℕ} {done : List (Name × Item)} {r : Answer code.Scope} → ItemsDeclared s t i s' t' i' done
+    → DeclaresItems s' t' i' r t'' i'' (parse_list source (parse_local source (scope_of s' t') word) [] at) → DeclaresItems s t i r t'' i'' (parse_list source (parse_local source (scope_of s t) word) done at)
 locals_next source word at {s} {t = t} {done = done} p r =
-    reads_as (λ items. done ++ items) r refl (list_more source (scope_of s t) word done at ∙ ap (λ z. mapped (λ items. done ++ items) (parse_list source (parse_local source z word) [] at)) (sym p.scope)) (λ items d. more_scoped p d) (λ w. w)
+    reads_as (λ items. done ++ items) r (list_more source (scope_of s t) word done at ∙ ap (λ z. mapped (λ items. done ++ items) (parse_list source (parse_local source z word) [] at)) (sym p.scope)) (λ items x d. more_scoped p d) (λ w. w)
 
 pub ruleset for_locals = (locals_first, local_none, local_some, locals_next)

@@ -12,7 +12,7 @@ use Rattle.source.specs.declared.Token.{Token}
 use Rattle.source.specs.Tokens.{token_at, name_of}
 use Rattle.tree.specs.Tree.{Name}
 use Rattle.tree.specs.Symbols.{Scope, is_taken}
-use Rattle.grammar.specs.Parse.{Got, fail_at, within, is}
+use Rattle.grammar.specs.Parse.{Got, and_then, fail_at, within, is}
 use Rattle.grammar.specs.Parse.Got.{got}
 use Rattle.layout.specs.Limits.{word_limit, name_limit}
 use Rattle.grammar.specs.Declarations.{ItemKeyword, new_name, item_limit}
@@ -21,34 +21,14 @@ use Rattle.symbols.specs.Packing.{pack_of, unpack}
 use Rattle.symbols.specs.Table.{level_of, live_names}
 use Rattle.symbols.proofs.Table.{held_all, entries_length}
 use Rattle.symbols.proofs.PackedTokens.{name_unpacked}
-use Rattle.parser.specs.declared.Part.{Part}
-use Rattle.parser.specs.Answers.{part_of, got_with}
 use Rattle.declarations.specs.Scopes.{name_failure}
 use Rattle.parser.proofs.ReadLaws.{never}
+use Rattle.declarations.proofs.ParseLaws.{within_then}
 
 -- ---- A new name's failure
 
 pub held_length : (n : ℕ) (table : List ℕ) → 7 * n ≤ length table → length (live_names n table) ≡ n
 held_length n table h = ap length (held_all n table h) ∙ entries_length n table
-
-module _ (scope : Scope) (limit : ℕ) (t : Token) (name : Name) where
-  pub failure_kind : (t.kind ≡ Kinds.name → ⊥) → 6 ≡ name_failure scope limit t name
-  unfolding name_failure
-  failure_kind k = rw (ne_eqb _ _ k)
-
-  module _ (k : t.kind ≡ Kinds.name) {taken : Bool} (i : taken ≡ is_taken scope name) where
-    pub failure_taken : taken ≡ true → 8 ≡ name_failure scope limit t name
-    unfolding name_failure
-    failure_taken h = rw (eq-eqb _ _ k, ← i, h)
-
-    module _ (h : taken ≡ false) {n : ℕ} (count : length scope.names ≡ n) where
-      pub failure_full : 512 ≤ n → 10 ≡ name_failure scope limit t name
-      unfolding name_failure
-      failure_full l = rw (eq-eqb _ _ k, ← i, h, count, le-leb _ _ l)
-
-      pub failure_limit : n < 512 → limit ≡ name_failure scope limit t name
-      unfolding name_failure
-      failure_limit l = rw (eq-eqb _ _ k, ← i, h, count, lt-leb _ _ l)
 
 -- ---- A new name
 
@@ -75,29 +55,20 @@ module _ (source : List ℕ) (scope : Scope) (limit : ℕ) where
       go true false false = refl
       go false b c = refl
 
-  passed : (t : Token) (n : ℕ) (v : Name) → got_with (part_of {A = ℕ} (within n t (got 0 t.next))) v ≡ within n t (got v t.next)
-  unfolding within got_with part_of fail_at
-  passed t n v = go (eqb n 0)
-    where
-      go : (b : Bool) → got_with (part_of {A = ℕ} (whether b (λ _. got 0 t.next) (λ _. fail_at t n))) v ≡ whether b (λ _. got v t.next) (λ _. fail_at t n)
-      go true = refl
-      go false = refl
-
   -- what is no name fails with 6, whatever its characters
   is_six : (t : Token) → eqb t.kind Kinds.name ≡ false → (name other : Name) → judged t name ≡ judged t other
   unfolding within name_failure
   is_six t k name other = rw k
 
-  pub new_is : (at : ℕ) {t : Token} {p : Packed} {n : ℕ} {part : Part} → t ≡ token_at source at → p ≡ pack_of (name_of source t) → n ≡ name_failure scope limit t (unpack p)
-      → part ≡ part_of {A = ℕ} (within n t (got 0 t.next)) → got_with part (unpack p) ≡ new_name source scope limit (token_at source at)
-  new_is at {t} {p} {n} {part} e q f h =
+  pub new_is : (at : ℕ) {t : Token} {p : Packed} → t ≡ token_at source at → p ≡ pack_of (name_of source t)
+      → new_name source scope limit (token_at source at) ≡ and_then (within (name_failure scope limit t (unpack p)) t (got t t.next)) (λ _ n. got (unpack p) n)
+  unfolding and_then
+  new_is at {t} {p} e q =
       let u = token_at source at in
-      ap (λ x. got_with x (unpack p)) h
-      ∙ passed t n (unpack p)
-      ∙ ap (λ x. within x t (got (unpack p) t.next)) f
-      ∙ ap (λ x. judged x (unpack p)) e
-      ∙ go (eqb u.kind Kinds.name) refl
-      ∙ sym (new_within u)
+      new_within u
+      ∙ sym (go (eqb u.kind Kinds.name) refl)
+      ∙ ap (λ x. judged x (unpack p)) (sym e)
+      ∙ sym (within_then (name_failure scope limit t (unpack p)) t (got t t.next) (λ _ n. got (unpack p) n))
     where
       go : (b : Bool) → eqb (token_at source at).kind Kinds.name ≡ b → judged (token_at source at) (unpack p) ≡ judged (token_at source at) (name_of source (token_at source at))
       go true k = ap (judged (token_at source at)) (ap unpack (q ∙ ap (λ x. pack_of (name_of source x)) e) ∙ name_unpacked source at k)
@@ -116,22 +87,6 @@ module _ (source : List ℕ) (scope : Scope) (limit : ℕ) where
       go true false false e k = leb-false _ _ e
       go false b c e k = absurd (never k refl)
 
--- ---- The limit of a name's word
-
-module _ (level words : ℕ) where
-  pub limit_full : level ≡ 0 → 384 ≤ words → 11 ≡ word_limit (level_of level) words
-  unfolding word_limit level_of
-  limit_full e h = rw (e, le-ltb words 384 h)
-
-  pub limit_none : level ≡ 0 → words < 384 → 0 ≡ word_limit (level_of level) words
-  unfolding word_limit level_of
-  limit_none e h = rw (e, lt-ltb words 384 h)
-
-pub limit_local : (level words : ℕ) → (level ≡ 0 → ⊥) → 0 ≡ word_limit (level_of level) words
-unfolding word_limit level_of
-limit_local zero words e = absurd (e refl)
-limit_local (suc p) words e = refl
-
 -- it does not turn on the names
 pub limit_same : (word : ItemKeyword) (s u : Scope) → s.level ≡ u.level → s.taken ≡ u.taken → item_limit word s ≡ item_limit word u
 unfolding item_limit name_limit
@@ -139,8 +94,4 @@ limit_same ItemKeyword.integer s u p q = rw (p, q)
 limit_same ItemKeyword.constant s u p q = rw (p, q)
 limit_same ItemKeyword.compconstant s u p q = refl
 
-pub ruleset for_array = (held_length)
-
-pub ruleset for_name_failure = (held_length, failure_kind, failure_taken, failure_full, failure_limit)
-
-pub ruleset for_procedure = (held_length)
+pub ruleset for_name_failure = (held_length)

@@ -1,4 +1,4 @@
--- Procedures: the frame, the body, and the whole.
+-- Procedures: the body, and the whole.
 use Prim.Native.Nat.{ℕ, suc, ◌+◌, ◌*◌, ◌≤◌, ◌<◌}
 use mathlib.Core.Path.{◌≡◌, refl, sym, ap, ap₂, ◌∙◌}
 use mathlib.Core.Bool.{Bool, true}
@@ -6,8 +6,6 @@ use mathlib.Core.List.{List, [], ◌∷◌, foldl}
 use native.Mathlib.Numerals.{add-one}
 use native.Mathlib.Omega.{arith}
 use lib.ListN.{length, set}
-use Rattle.declarations.specs.Declares.{Gives}
-use Rattle.parser.proofs.ReadLaws.{ended_by}
 use Rattle.source.specs.Kinds
 use Rattle.source.specs.declared.Token.{Token}
 use Rattle.source.specs.Tokens.{token_at}
@@ -33,89 +31,27 @@ use Rattle.layout.specs.Emission.{stored, local_values, emit_declaration, emit_d
 use Rattle.emitter.specs.declared.Output.{Output}
 use Rattle.emitter.proofs.Lays.{word, sequence}
 use Rattle.emitter.proofs.EmittedWords.{return_word}
-use Rattle.parser.specs.declared.Part.{Part}
-use Rattle.parser.specs.Answers.{part_of}
 use Rattle.declarations.specs.declared.SectorEnds.{SectorEnds}
 use Rattle.declarations.specs.declared.Allocation.{Allocation}
-use Rattle.declarations.specs.declared.Scope as code
-use Rattle.declarations.specs.Scopes.{scope_of, ItemsDeclared}
 use Rattle.declarations.specs.Allocations.{ends_of, end_of, pool_of, with_global, allocation_of, SoundAllocation, Declared, sector_number}
-use Rattle.declarations.specs.Forms.{heading_in, body_in, limited_in, procedure_in}
-use Rattle.declarations.specs.Procedures.{InnerScope, framed, FrameEmitted, bases_at, BodyEmitted}
-use Rattle.parser.proofs.Answers.{then_got, then_failed, part_failed}
-use Rattle.declarations.proofs.ParseLaws.{then_inv, expect_here, expect_other}
+use Rattle.declarations.specs.Forms.{limited_in}
+use Rattle.declarations.specs.Forms.{heading_in, body_in, procedure_in}
+use Rattle.declarations.specs.Frames.{framed, FrameEmitted}
+use Rattle.declarations.specs.Clauses.{limit_then_expect, end_then_expect}
+use Rattle.declarations.specs.Procedures.{bases_at, BodyEmitted}
+use Rattle.parser.proofs.Answers.{then_got, then_failed}
+use Rattle.declarations.proofs.ParseLaws.{then_inv}
 use Rattle.declarations.proofs.NameLaws.{name_room}
-use Rattle.declarations.proofs.ScopeLaws.{held_more, held_kept, take_less}
-use Rattle.declarations.proofs.LimitLaws.{sector_number_lem, limited_failed, limited_read, limited_limit, Exact, same_number, limited_exact}
+use Rattle.declarations.proofs.ScopeLaws.{held_more, held_kept}
+use Rattle.declarations.proofs.LimitLaws.{sector_number_lem, limited_then, not_passed, Exact, same_number, limited_exact}
 use Rattle.declarations.proofs.SectorLaws.{ends_length}
 
 -- ---- The heading
 
 module _ (source : List ℕ) (scope : Scope) (at : ℕ) where
-  pub heading_name : {k a : ℕ} → new_name source scope (name_limit scope) (token_at source at) ≡ failed k a → heading_in source scope at ≡ failed k a
-  unfolding heading_in
-  heading_name e = then_failed _ e
-
-  module _ {name : Name} {n : ℕ} (e : new_name source scope (name_limit scope) (token_at source at) ≡ got name n) where
-    pub heading_semicolon : {k a : ℕ} → expect Kinds.semicolon source n ≡ failed k a → heading_in source scope at ≡ failed k a
-    unfolding heading_in
-    heading_semicolon h = then_got _ e ∙ then_failed _ h
-
-    pub heading_begin : {t : Token} {m : ℕ} {r : Part} → expect Kinds.semicolon source n ≡ got t m → r ≡ part_of (expect Kinds.BEGIN source m) → Gives r name (heading_in source scope at)
-    unfolding heading_in
-    heading_begin {m = m} h i = ended_by name (expect Kinds.BEGIN source m) (then_got _ e ∙ then_got _ h) i refl tt
-
   pub heading_room : {name : Name} {n : ℕ} → heading_in source scope at ≡ got name n → length scope.names < 512
   unfolding heading_in
   heading_room e = name_room source scope (name_limit scope) (token_at source at) (then_inv _ _ e).2
-
--- ---- The frame
-
--- the code's scope of the locals is the definition's
-inner_scope : (s : Allocation) (t u : List ℕ) (name : Packed) → 3584 ≤ length t → s.names + 1 ≤ 512 → length u ≡ length t → tables.Entered s.names t name 0 Symbol.unknown u
-    → scope_of (record { names = s.names + 1; level = s.taken + 1; taken = 0; base = s.output.next }) u ≡ local_scope (allocation_of s t).scope (unpack name)
-unfolding local_scope declare tables.level_of tables.at_level tables.entry_of
-inner_scope s t u name long few same d =
-    let names = held_more s.names t u name 0 Symbol.unknown (omega arith) same d in
-    ap₂ (λ x y. record { names = x; level = tables.level_of y; taken = 0 }) names (add-one s.taken)
-
-pub inner_is : (s : Allocation) (t u : List ℕ) (name : Packed) → 3584 ≤ length t → s.names + 1 ≤ 512 → length u ≡ length t → tables.Entered s.names t name 0 Symbol.unknown u
-    → InnerScope s t (unpack name) (record { names = s.names + 1; level = s.taken + 1; taken = 0; base = s.output.next }) u
-inner_is s t u name long few same d =
-    record { scope = inner_scope s t u name long few same d; room = record { long = omega arith; few = few; each = omega arith }; names = refl; base = refl; kept = d.kept }
-
--- so the locals are the definition's
-pub frame_parsed : (source : List ℕ) {s : Allocation} {t u : List ℕ} {name : Name} {inner : code.Scope} (at : ℕ) → InnerScope s t name inner u
-    → {g : Got (List (Name × Item))} → parse_locals source (scope_of inner u) at ≡ g → parse_locals source (local_scope (allocation_of s t).scope name) at ≡ g
-frame_parsed source at i e = ap (λ x. parse_locals source x at) (sym i.scope) ∙ e
-
-module _ {s : Allocation} {t u v image between : List ℕ} (after : List ℕ) {name : Name} {inner inner' : code.Scope} {locals : List (Name × Item)} (output : Output) where
-  pub frame_framed : InnerScope s t name inner u → ItemsDeclared inner u image inner' v between locals
-      → after ≡ set (set between (0o200 + s.taken) (s.output.next + inner'.taken)) (s.output.next + inner'.taken) 0
-      → output.next ≡ s.output.next + inner'.taken + 1 → emitted.literals_in output.pool ≡ pool_of s
-      → FrameEmitted s t image name inner'.names (s.output.next + inner'.taken) output v after locals
-  unfolding layout.local_words local_scope
-  frame_framed i p laid code pool =
-      let S = local_scope (allocation_of s t).scope name in
-      let inside = p.scope ∙ ap (λ x. foldl declare_item x locals) i.scope in
-      let words : inner'.taken ≡ (foldl declare_item S locals).taken = ap (λ x. x.taken) inside in
-      let link : s.output.next + inner'.taken ≡ layout.link_of (allocation_of s t) name locals = ap (λ x. s.output.next + x) words in
-      let none : inner.taken ≡ 0 = ap (λ x. x.taken) i.scope in
-      let base = i.base in
-      let names = i.names in
-      let start : inner.base + inner.taken ≡ s.output.next = omega (arith, base, none) in
-      let image' = laid ∙ ap (λ x. set (set x (0o200 + s.taken) (s.output.next + inner'.taken)) (s.output.next + inner'.taken) 0) (p.laid ∙ ap (λ x. stored image x (local_values locals)) start)
-      ∙ ap (λ x. set (set (stored image s.output.next (local_values locals)) (0o200 + s.taken) x) x 0) link in
-      let last : output.next ≡ suc (layout.link_of (allocation_of s t) name locals) = omega (arith, code, link) in
-      record {
-        linked = link;
-        alive = ap (λ x. x.names) inside;
-        kept = take_less (7 * s.names) (7 * inner.names) v u (omega (arith, names)) p.kept ∙ i.kept;
-        laid = emitted_is image' last pool;
-      }
-    where
-      emitted_is : {i j p q : List ℕ} {c e : ℕ} → i ≡ j → c ≡ e → p ≡ q → ◌≡◌ {A = emission.Emitted} (record { image = i; next = c; pool = p }) (record { image = j; next = e; pool = q })
-      emitted_is a b c = rw (a, b, c)
 
 -- ---- The body
 
@@ -144,34 +80,15 @@ module _ {s : Allocation} {t image v between : List ℕ} (image₂ : List ℕ) {
 
 -- ---- `.END`
 
-module _ (source : List ℕ) (kind limit at : ℕ) {t : Token} {r : Part} (e : t ≡ token_at source at) where
-  pub ended_other : (t.kind ≡ Kinds.END → ⊥) → r ≡ part_of {A = ℕ} (fail_at t 6)
-      → r ≡ part_of {A = ℕ} (and_then (expect Kinds.END source at) (λ last _. within limit last (and_then (expect kind source last.next) (λ _ next. got 0 next))))
-  unfolding fail_at
-  ended_other k h = h ∙ ap part_of (sym (then_failed _ (expect_other Kinds.END source at e k)))
+module _ {A : Type 0} (source : List ℕ) (kind limit : ℕ) (v : A) where
+  -- a part that is judged at its `.END`, with whatever was read
+  pub ended_then : (x : Got Token) → and_then x (λ last _. within limit last (and_then (expect kind source last.next) (λ _ next. got v next))) ≡ and_then (and_then x (λ last _. limit_then_expect source limit last kind)) (λ _ n. got v n)
+  unfolding and_then
+  ended_then (got t n) = limited_then limit t kind source v
+  ended_then (failed k a) = refl
 
-  pub ended_on : t.kind ≡ Kinds.END → r ≡ part_of {A = ℕ} (within limit t (and_then (expect kind source t.next) (λ _ next. got 0 next)))
-      → r ≡ part_of {A = ℕ} (and_then (expect Kinds.END source at) (λ last _. within limit last (and_then (expect kind source last.next) (λ _ next. got 0 next))))
-  ended_on k h = h ∙ ap part_of (sym (then_got _ (expect_here Kinds.END source at e k)))
-
--- with whatever was read
-module _ {A : Type 0} {r : Part} (source : List ℕ) (kind limit : ℕ) (v : A) where
-  pub end_failed : (x : Got Token) {k a : ℕ} → r ≡ part_of {A = ℕ} (and_then x (λ last _. within limit last (and_then (expect kind source last.next) (λ _ next. got 0 next)))) → r ≡ Part.Failed k a
-      → and_then x (λ last _. within limit last (and_then (expect kind source last.next) (λ _ next. got v next))) ≡ failed k a
-  unfolding and_then part_of
-  end_failed (got t n) h e = limited_failed limit t (expect kind source t.next) v h e
-  end_failed (failed l b) h e = part_failed (failed l b) h e
-
-  pub end_read : (x : Got Token) {n : ℕ} → r ≡ part_of {A = ℕ} (and_then x (λ last _. within limit last (and_then (expect kind source last.next) (λ _ next. got 0 next)))) → r ≡ Part.Read n
-      → and_then x (λ last _. within limit last (and_then (expect kind source last.next) (λ _ next. got v next))) ≡ got v n
-  unfolding and_then part_of
-  end_read (got t m) h e = limited_read limit t (expect kind source t.next) v h e
-  end_read (failed l b) h e = absurd (let z : ◌≡◌ {A = ℕ} 0 1 = cc in omega arith)
-
-pub end_limit : {r : Part} (source : List ℕ) (kind limit : ℕ) (x : Got Token) {n : ℕ} → r ≡ part_of {A = ℕ} (and_then x (λ last _. within limit last (and_then (expect kind source last.next) (λ _ next. got 0 next)))) → r ≡ Part.Read n → limit ≡ 0
-unfolding and_then part_of
-end_limit source kind limit (got t m) h e = limited_limit {A = ℕ} limit t (expect kind source t.next) 0 h e
-end_limit source kind limit (failed l b) h e = absurd (let z : ◌≡◌ {A = ℕ} 0 1 = cc in omega arith)
+pub ended_zero : (source : List ℕ) (kind limit at : ℕ) {t : Token} {n : ℕ} → end_then_expect source limit kind at ≡ got t n → limit ≡ 0
+ended_zero source kind limit at e = let r = then_inv _ _ e in not_passed limit r.0 (got r.0 r.0.next) (λ _ m. expect kind source m) r.3
 
 -- ---- A procedure
 
@@ -185,20 +102,13 @@ module _ (source : List ℕ) (st : layout.Allocation) (accumulator : Bool) (at :
     unfolding procedure_in
     procedure_body h = then_got _ e ∙ then_failed _ h
 
-    module _ {inside : List (Name × Item) × Stmts} {m : ℕ} (i : body_in source st.scope name n ≡ got inside m) (limit : ℕ) (l : limit ≡ declaration_limit st (Declaration.procedure name accumulator inside.0 inside.1)) {r : Part}
-        (h : r ≡ part_of {A = ℕ} (and_then (expect Kinds.END source m) (λ last _. within limit last (and_then (expect Kinds.semicolon source last.next) (λ _ next. got 0 next))))) where
-      abbrev d : Declaration
-      d = Declaration.procedure name accumulator inside.0 inside.1
-
-      on : procedure_in source st accumulator at ≡ and_then (expect Kinds.END source m) (λ last _. within limit last (and_then (expect Kinds.semicolon source last.next) (λ _ next. got (d ∷ []) next)))
+    module _ {inside : List (Name × Item) × Stmts} {m : ℕ} (i : body_in source st.scope name n ≡ got inside m) (limit : ℕ) (l : limit ≡ declaration_limit st (Declaration.procedure name accumulator inside.0 inside.1)) where
+      pub procedure_ended : procedure_in source st accumulator at ≡ and_then (end_then_expect source limit Kinds.semicolon m) (λ _ k. got (Declaration.procedure name accumulator inside.0 inside.1 ∷ []) k)
       unfolding procedure_in limited_in
-      on = then_got _ e ∙ then_got _ i ∙ ap (λ z. and_then (expect Kinds.END source m) (λ last _. within z last (and_then (expect Kinds.semicolon source last.next) (λ _ next. got (d ∷ []) next)))) (sym l)
-
-      pub procedure_ended : {k a : ℕ} → r ≡ Part.Failed k a → procedure_in source st accumulator at ≡ failed k a
-      procedure_ended q = on ∙ end_failed source Kinds.semicolon limit (d ∷ []) (expect Kinds.END source m) h q
-
-      pub procedure_on : {k : ℕ} → r ≡ Part.Read k → procedure_in source st accumulator at ≡ got (Declaration.procedure name accumulator inside.0 inside.1 ∷ []) k
-      procedure_on q = on ∙ end_read source Kinds.semicolon limit (d ∷ []) (expect Kinds.END source m) h q
+      procedure_ended =
+          let d = Declaration.procedure name accumulator inside.0 inside.1 in
+          then_got _ e ∙ then_got _ i ∙ ap (λ z. and_then (expect Kinds.END source m) (λ last _. within z last (and_then (expect Kinds.semicolon source last.next) (λ _ next. got (d ∷ []) next)))) (sym l)
+          ∙ ended_then source Kinds.semicolon limit (d ∷ []) (expect Kinds.END source m)
 
 module _ {s : Allocation} {t image v image' : List ℕ} {pool : ℕ} {name : Name} {output : Output} {inside : List (Name × Item) × Stmts} (accumulator : Bool) (h : SoundAllocation s) (p : BodyEmitted s t image pool name output v image' inside) where
   ends : length (ends_of s.sectors) ≡ s.sectors.count
@@ -252,5 +162,3 @@ module _ {s : Allocation} {t image v image' : List ℕ} {pool : ℕ} {name : Nam
           → ◌≡◌ {A = layout.Allocation} (record { scope = record { names = a; level = Level.outer; taken = s.taken + 1 }; next = c; pool = i; ends = ends_of s.sectors; array = s.array })
           (record { scope = record { names = b; level = Level.outer; taken = s.taken + 1 }; next = e; pool = j; ends = ends_of s.sectors; array = s.array })
       allocation_is p q r = rw (p, q, r)
-
-pub ruleset for_procedure = (heading_room, procedure_heading, procedure_body, procedure_ended, procedure_on, procedure_limit, procedure_declared, end_limit)

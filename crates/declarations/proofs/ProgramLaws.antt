@@ -1,4 +1,4 @@
--- Global items, the main body and the whole program.
+-- The main body and the whole program.
 use Prim.Native.Nat.{ℕ, ◌+◌, ◌≤◌}
 use mathlib.Core.Path.{◌≡◌, refl, sym, ap, ap₂, ◌∙◌}
 use mathlib.Core.Bool.{Bool, true, false}
@@ -31,54 +31,17 @@ use Rattle.layout.specs.Emission.{stored, item_values, local_values, emit_declar
 use Rattle.emitter.specs.declared.Output.{Output}
 use Rattle.emitter.proofs.Lays.{word, sequence}
 use Rattle.emitter.proofs.EmittedWords.{generic_word}
-use Rattle.parser.specs.declared.Part.{Part}
-use Rattle.parser.specs.Answers.{part_of}
 use Rattle.declarations.specs.declared.SectorEnds.{SectorEnds}
 use Rattle.declarations.specs.declared.Allocation.{Allocation}
-use Rattle.declarations.specs.declared.Scope as code
-use Rattle.declarations.specs.Scopes.{ItemsDeclared}
 use Rattle.declarations.specs.Allocations.{ends_of, end_of, pool_of, global_scope, allocation_of, SoundAllocation, Declared, DeclaredAnyPlan, sector_number}
-use Rattle.declarations.specs.Forms.{declarations_of}
-use Rattle.declarations.specs.Clauses.{after_token}
+use Rattle.declarations.specs.Clauses.{after_token, end_then_expect}
 use Rattle.declarations.specs.Procedures.{bases_at, main_in, MainEmitted, program_in, ProgramEmitted}
 use Rattle.parser.proofs.Answers.{then_got, then_failed}
 use Rattle.parser.proofs.ReadLaws.{then_then}
-use Rattle.declarations.proofs.ScopeLaws.{stored_append, item_words_lem}
 use Rattle.declarations.proofs.LimitLaws.{sector_number_lem, Exact, same_number, limited_exact}
 use Rattle.declarations.proofs.SectorLaws.{ends_length}
-use Rattle.declarations.proofs.ProcedureLaws.{end_failed, end_read}
-use Rattle.declarations.proofs.FormLaws.{items_allocation, main_def}
-
--- ---- Global items
-
-one_words : (scope : Scope) (x : Name × Item) → (declare_item scope x).taken ≡ scope.taken + length (item_values x.1)
-unfolding declare_item declare
-one_words scope x = ap (λ w. scope.taken + w) (item_words_lem x.1)
-
-items_emitted : (ends : ℕ → ℕ) (st : layout.Allocation) (items : List (Name × Item)) (image : List ℕ) → emit_declarations ends st (declarations_of items) image ≡ stored image (0o200 + st.scope.taken) (local_values items)
-unfolding emit_declarations emit_declaration declarations_of local_values stored layout.allocate
-items_emitted ends st [] image = refl
-items_emitted ends st (x ∷ xs) image =
-    let w = one_words st.scope x in
-    let at : 0o200 + (declare_item st.scope x).taken ≡ 0o200 + st.scope.taken + length (item_values x.1) = omega (arith, w) in
-    items_emitted ends (layout.with_scope st (declare_item st.scope x)) xs (stored image (0o200 + st.scope.taken) (item_values x.1))
-    ∙ ap (λ a. stored (stored image (0o200 + st.scope.taken) (item_values x.1)) a (local_values xs)) at
-    ∙ sym (stored_append image (0o200 + st.scope.taken) (item_values x.1) (local_values xs))
-
-level_outer : (n : ℕ) → n ≡ 0 → Level.outer ≡ tables.level_of n
-unfolding tables.level_of
-level_outer n e = rw e
-
-pub globals_declared : (s : Allocation) {t u image after : List ℕ} {inner : code.Scope} {items : List (Name × Item)} → SoundAllocation s → ItemsDeclared (global_scope s) t image inner u after items
-    → DeclaredAnyPlan s t image (record { names = inner.names; taken = inner.taken; output = s.output; sectors = s.sectors; array = s.array }) u after (declarations_of items)
-unfolding tables.level_of
-globals_declared s {t} {u} {image} {after} {inner} {items} h p =
-    let scope = ap (λ l. record { names = tables.live_names inner.names u; level = l; taken = inner.taken }) (level_outer inner.level p.level) ∙ p.scope in
-    λ ends. record {
-      allocation = ap (λ x. layout.with_scope (allocation_of s t) x) scope ∙ sym (items_allocation (allocation_of s t) items);
-      sound = record { few = p.room.few; each = p.room.each; closed = h.closed; used = h.used; fits = h.fits; top = h.top };
-      laid = p.laid ∙ sym (items_emitted ends (allocation_of s t) items image);
-    }
+use Rattle.declarations.proofs.ProcedureLaws.{ended_then}
+use Rattle.declarations.proofs.FormLaws.{main_def}
 
 -- ---- The main body
 
@@ -87,17 +50,12 @@ module _ (source : List ℕ) (st : layout.Allocation) (at : ℕ) where
   unfolding main_in
   main_failed e = then_failed _ e
 
-  module _ {main : Stmts} {n : ℕ} (e : parse_outermost source st.scope.names at ≡ got main n) (limit : ℕ) (l : limit ≡ main_limit st main) {r : Part}
-      (h : r ≡ part_of {A = ℕ} (and_then (expect Kinds.END source n) (λ last _. within limit last (and_then (expect Kinds.end_of_source source last.next) (λ _ next. got 0 next))))) where
-    on : main_in source st at ≡ and_then (expect Kinds.END source n) (λ last _. within limit last (and_then (expect Kinds.end_of_source source last.next) (λ _ next. got main next)))
-    unfolding main_in
-    on = then_got _ e ∙ ap (λ z. and_then (expect Kinds.END source n) (λ last _. within z last (and_then (expect Kinds.end_of_source source last.next) (λ _ next. got main next)))) (sym l)
-
-    pub main_ended : {k a : ℕ} → r ≡ Part.Failed k a → main_in source st at ≡ failed k a
-    main_ended q = on ∙ end_failed source Kinds.end_of_source limit main (expect Kinds.END source n) h q
-
-    pub main_on : {k : ℕ} → r ≡ Part.Read k → main_in source st at ≡ got main k
-    main_on q = on ∙ end_read source Kinds.end_of_source limit main (expect Kinds.END source n) h q
+  pub main_ended : {main : Stmts} {n : ℕ} → parse_outermost source st.scope.names at ≡ got main n → (limit : ℕ) → limit ≡ main_limit st main
+      → main_in source st at ≡ and_then (end_then_expect source limit Kinds.end_of_source n) (λ _ k. got main k)
+  unfolding main_in
+  main_ended {main} {n} e limit l =
+      then_got _ e ∙ ap (λ z. and_then (expect Kinds.END source n) (λ last _. within z last (and_then (expect Kinds.end_of_source source last.next) (λ _ next. got main next)))) (sym l)
+      ∙ ended_then source Kinds.end_of_source limit main (expect Kinds.END source n)
 
 pub main_lays : {f : emission.Bases} {a c : emission.Emitted} (b : emission.Emitted) (main : Stmts) → Lays f a b (stmts_words main) → c ≡ emission.with_word b (get_or table_of HLT 0) → Lays f a c (λ at. stmts_words main at ⧺ Sym.generic HLT ∷ [])
 main_lays {f} b main p e = sequence p (rw (← (e ∙ sym (generic_word f b HLT))) at (word {f = f} {a = b} (Sym.generic HLT)))
@@ -145,16 +103,6 @@ module _ {s : Allocation} (t : List ℕ) {image image₂ : List ℕ} {pool : ℕ
 pub none_alive : (table : List ℕ) → tables.live_names 0 table ≡ []
 unfolding tables.entries_of
 none_alive table = held_all 0 table (omega arith)
-
--- whether subscripts are tested
-module _ (source : List ℕ) (at : ℕ) {t : Token} (e : t ≡ token_at source at) where
-  pub checked_none : (t.kind ≡ Kinds.CHECKED → ⊥) → parse_checked source at ≡ got false at
-  unfolding parse_checked
-  checked_none k = rw (← e, ne_eqb _ _ k)
-
-  pub checked_on : t.kind ≡ Kinds.CHECKED → parse_checked source at ≡ and_then (expect Kinds.semicolon source t.next) (λ _ next. got true next)
-  unfolding parse_checked
-  checked_on k = rw (← e, eq-eqb _ _ k)
 
 module _ (source : List ℕ) where
   abbrev opened : Got Bool

@@ -5,7 +5,6 @@ use mathlib.Core.List.{List, [], ◌∷◌, ◌++◌, foldl, foldl-append, appen
 use native.Mathlib.Omega.{arith}
 use lib.ListN.{length-replicate, length, set, take, length-append}
 use lib.Seq.{take-take}
-use Rattle.parser.specs.Reads.Reads.{read}
 use Rattle.tree.specs.Tree.{Name, Item}
 use Rattle.tree.specs.Symbols.{Symbol, Scope, words_taken, item_symbol, declare, declare_item, item_value}
 use Rattle.source.specs.Kinds
@@ -20,12 +19,10 @@ use Rattle.symbols.specs.Packing.{unpack}
 use Rattle.symbols.specs.Table.{level_of, entry_of, live_names, Entered}
 use Rattle.symbols.proofs.Table.{item_level, held_all, entries_kept}
 use Rattle.layout.specs.Emission.{stored, item_values, local_values}
-use Rattle.parser.specs.declared.Part.{Part}
 use Rattle.declarations.specs.declared.Scope as code
-use Rattle.declarations.specs.Declares.{Declares, Gives}
 use Rattle.declarations.specs.Scopes.{scope_of, Room, ItemsDeclared}
-use Rattle.parser.proofs.Answers.{then_got, then_failed}
-use Rattle.parser.proofs.ReadLaws.{reads_as, then_then}
+use Rattle.declarations.specs.Clauses.{Answer, DeclaresItem, DeclaresItems}
+use Rattle.parser.proofs.ReadLaws.{reads_as}
 use Rattle.declarations.proofs.ParseLaws.{then_inv}
 use Rattle.declarations.proofs.NameLaws.{name_room, limit_same}
 
@@ -121,44 +118,18 @@ module _ {s s' s'' : code.Scope} {t t' t'' i i' i'' : List ℕ} {xs ys : List (N
       }
 
 -- a local after those that are done
-pub local_next : (source : List ℕ) (word : ItemKeyword) (at : ℕ) {s s' s'' : code.Scope} {t t' t'' i i' i'' : List ℕ} {done : List (Name × Item)} {part : Part} → ItemsDeclared s t i s' t' i' done
-    → Declares (λ one. ItemsDeclared s' t' i' s'' t'' i'' (one ∷ [])) part (parse_item source word (scope_of s' t') at) → Declares (ItemsDeclared s t i s'' t'' i'') part (parse_local source (scope_of s t) word done at)
+pub local_next : (source : List ℕ) (word : ItemKeyword) (at : ℕ) {s s' : code.Scope} {t t' t'' i i' i'' : List ℕ} {done : List (Name × Item)} {r : Answer code.Scope} → ItemsDeclared s t i s' t' i' done
+    → DeclaresItem s' t' i' r t'' i'' (parse_item source word (scope_of s' t') at) → DeclaresItems s t i r t'' i'' (parse_local source (scope_of s t) word done at)
 unfolding parse_local
 local_next source word at {done = done} p r =
-    reads_as (snoc done) r refl (ap (λ z. and_then (parse_item source word z at) (λ item n. got (snoc done item) n)) (sym p.scope)) (λ one d. more_scoped p d) (λ w. w)
+    reads_as (snoc done) r (ap (λ z. and_then (parse_item source word z at) (λ item n. got (snoc done item) n)) (sym p.scope)) (λ one x d. more_scoped p d) (λ w. w)
 
 -- ---- A name and its item
 
-pub named_by : (source : List ℕ) (word : ItemKeyword) (s : code.Scope) (table : List ℕ) (t : Token) {limit : ℕ} → limit ≡ item_limit word (scope_of s []) → new_name source (scope_of s table) limit t ≡ new_name source (scope_of s table) (item_limit word (scope_of s table)) t
-named_by source word s table t e = ap (λ l. new_name source (scope_of s table) l t) (e ∙ limit_same word (scope_of s []) (scope_of s table) refl refl)
-
-module _ (source : List ℕ) (scope : Scope) (at : ℕ) where
-  pub item_failed : (word : ItemKeyword) {k a : ℕ} → new_name source scope (item_limit word scope) (token_at source at) ≡ failed k a → parse_item source word scope at ≡ failed k a
-  unfolding parse_item
-  item_failed word e = then_failed _ e
-
-  pub item_on : (word : ItemKeyword) {name : Name} {n : ℕ} → new_name source scope (item_limit word scope) (token_at source at) ≡ got name n → parse_item source word scope at ≡ item_from source word scope name n
-  unfolding parse_item
-  item_on word e = then_got _ e
-
--- an item after its name
-module _ (source : List ℕ) (scope : Scope) (name : Name) (at : ℕ) where
-  pub from_integer : Gives (Part.Read at) (name, Item.integer) (item_from source ItemKeyword.integer scope name at)
-  unfolding item_from
-  from_integer = read refl refl refl
-
-  module _ {part : Part} {v : ℕ} (r : Gives part v (and_then (expect Kinds.equal source at) (λ _ m. parse_constant source scope.names m))) where
-    valued : (item : ℕ → Item) → Gives part (name, item v) (parse_value source scope name item at)
-    unfolding parse_value
-    valued item = reads_as (λ x. (name, item x)) r refl (then_then (expect Kinds.equal source at) (λ _ m. parse_constant source scope.names m) (λ x n. got (name, item x) n)) (λ x e. ap (λ y. (name, item y)) e) (λ w. w)
-
-    pub from_constant : Gives part (name, Item.constant v) (item_from source ItemKeyword.constant scope name at)
-    unfolding item_from
-    from_constant = valued Item.constant
-
-    pub from_compconstant : Gives part (name, Item.compconstant v) (item_from source ItemKeyword.compconstant scope name at)
-    unfolding item_from
-    from_compconstant = valued Item.compconstant
+pub named_by : (source : List ℕ) (word : ItemKeyword) (s : code.Scope) (table : List ℕ) (at : ℕ) → parse_item source word (scope_of s table) at
+    ≡ and_then (new_name source (scope_of s table) (item_limit word (scope_of s [])) (token_at source at)) (item_from source word (scope_of s table))
+unfolding parse_item
+named_by source word s table at = ap (λ l. and_then (new_name source (scope_of s table) l (token_at source at)) (item_from source word (scope_of s table))) (limit_same word (scope_of s table) (scope_of s []) refl refl)
 
 -- an item that was read had a name's room
 pub item_room : (source : List ℕ) (word : ItemKeyword) (scope : Scope) (at : ℕ) {x : Name × Item} {n : ℕ} → parse_item source word scope at ≡ got x n → length scope.names < 512

@@ -1,30 +1,32 @@
 -- The contracts of the functions that read a part of a declaration, all in one shape: what it starts from and the lent words at entry, the answer and the lent words at exit, and the definition's
 -- result.
-use Rattle.std.specs.Prelude.{ℕ, ◌+◌, ◌≤◌, Bool, List, [], ◌∷◌, leb, length}
 use Rattle.source.specs.Kinds
-use Rattle.source.specs.declared.Token.{Token}
-use Rattle.tree.specs.Tree.{Name, Item, Stmts, Declaration, Program}
 use Rattle.layout.specs.Allocation as layout
 use Rattle.tree.specs.Symbols as symbols
+use Rattle.std.specs.Prelude.{ℕ, ◌+◌, ◌≤◌, Bool, List, [], ◌∷◌, Result, leb, length}
+use Rattle.source.specs.declared.Token.{Token}
+use Rattle.tree.specs.Tree.{Name, Item, Declaration, Stmts, Program}
 use Rattle.grammar.specs.Parse.{Got, and_then, within, separated, expect}
 use Rattle.grammar.specs.Parse.Got.{got}
 use Rattle.grammar.specs.Cells.{parse_in_range}
 use Rattle.grammar.specs.Declarations.{ItemKeyword, size_of, parse_local, parse_initial}
 use Rattle.symbols.specs.declared.Packed.{Packed}
 use Rattle.symbols.specs.Packing.{unpack}
-use Rattle.expressions.specs.declared.OutputAnswer as expressions
+use Rattle.parser.specs.declared.Part.{Part}
+use Rattle.parser.specs.declared.Failure.{Failure}
 use Rattle.declarations.specs.declared.SectorEnds.{SectorEnds}
 use Rattle.declarations.specs.declared.Scope.{Scope}
 use Rattle.declarations.specs.declared.Allocation.{Allocation}
-use Rattle.declarations.specs.declared.AllocationAnswer.{AllocationAnswer}
-use Rattle.declarations.specs.declared.ScopeAnswer.{ScopeAnswer}
-use Rattle.declarations.specs.declared.FrameAnswer.{FrameAnswer}
-use Rattle.declarations.specs.declared.ProgramAnswer.{ProgramAnswer}
+use Rattle.declarations.specs.declared.Frame.{Frame}
+use Rattle.declarations.specs.declared.arrays.Head.{Head}
 use Rattle.declarations.specs.Declares.{Declares}
 use Rattle.declarations.specs.Scopes.{table_words, ItemsDeclared}
 use Rattle.declarations.specs.Allocations.{end_of, SoundAllocation, Declared, DeclaredAnyPlan, SectorClosed}
 use Rattle.declarations.specs.Forms.{array_in}
-use Rattle.declarations.specs.Procedures.{FrameEmitted, BodyEmitted, MainEmitted, ProgramEmitted}
+use Rattle.declarations.specs.Frames.{FrameEmitted}
+use Rattle.emitter.specs.declared.Output.{Output}
+use Rattle.declarations.specs.declared.Reading.{Reading}
+use Rattle.declarations.specs.Procedures.{BodyEmitted, MainEmitted, ProgramEmitted}
 
 -- ---- What is asked
 
@@ -38,47 +40,43 @@ ReadyForName s table = SoundAllocation s × (table_words ≤ length table) × (s
 
 -- ---- What is declared and emitted
 
+-- a part that is answered as a value, or a failure
+abbrev pub Answer : Type 0 → Type 0
+Answer X = Result (Part X) Failure
+
 module _ (s : Allocation) (table image : List ℕ) where
   -- declarations, by a plan of where the sectors' code ends
-  abbrev pub Allocates : SectorEnds → AllocationAnswer → List ℕ → List ℕ → Got (List Declaration) → Type 0
-  Allocates plan r table' image' g = Declares (Declared (end_of plan) s table image r.allocation table' image') r.part g
+  abbrev pub Allocates : SectorEnds → Answer Allocation → List ℕ → List ℕ → Got (List Declaration) → Type 0
+  Allocates plan r table' image' g = Declares (λ new s'. Declared (end_of plan) s table image s' table' image' new) r g
 
   -- declarations without statements: no plan is asked
-  abbrev pub AllocatesAnyPlan : AllocationAnswer → List ℕ → List ℕ → Got (List Declaration) → Type 0
-  AllocatesAnyPlan r table' image' g = Declares (DeclaredAnyPlan s table image r.allocation table' image') r.part g
+  abbrev pub AllocatesAnyPlan : Answer Allocation → List ℕ → List ℕ → Got (List Declaration) → Type 0
+  AllocatesAnyPlan r table' image' g = Declares (λ new s'. DeclaredAnyPlan s table image s' table' image' new) r g
 
   -- one of them
-  abbrev pub AllocatesOne : AllocationAnswer → List ℕ → List ℕ → Got Declaration → Type 0
-  AllocatesOne r table' image' g = Declares (λ d. DeclaredAnyPlan s table image r.allocation table' image' (d ∷ [])) r.part g
+  abbrev pub AllocatesOne : Answer Allocation → List ℕ → List ℕ → Got Declaration → Type 0
+  AllocatesOne r table' image' g = Declares (λ d s'. DeclaredAnyPlan s table image s' table' image' (d ∷ [])) r g
 
   -- a procedure's locals and link
-  abbrev pub EmitsFrame : Packed → FrameAnswer → List ℕ → List ℕ → Got (List (Name × Item)) → Type 0
-  EmitsFrame name r table' image' g = Declares (FrameEmitted s table image (unpack name) r.names r.link r.output table' image') r.part g
-
-  -- the same with its statements and return, its sector's pool at an address
-  abbrev pub EmitsBody : ℕ → Packed → expressions.OutputAnswer → List ℕ → List ℕ → Got (List (Name × Item) × Stmts) → Type 0
-  EmitsBody pool name r table' image' g = Declares (BodyEmitted s table image pool (unpack name) r.output table' image') r.part g
-
-  -- the main body and the last pool
-  abbrev pub EmitsMain : SectorEnds → expressions.OutputAnswer → List ℕ → Got Stmts → Type 0
-  EmitsMain plan r image' g = Declares (MainEmitted plan s table image r.output image') r.part g
+  abbrev pub EmitsFrame : Packed → Answer Frame → List ℕ → List ℕ → Got (List (Name × Item)) → Type 0
+  EmitsFrame name r table' image' g = Declares (λ locals f. FrameEmitted s table image (unpack name) f.names f.link f.output table' image' locals) r g
 
 -- `.NEXTSECTOR`, which leaves the table alone
-abbrev pub ClosesSector : Allocation → List ℕ → AllocationAnswer → List ℕ → Got (List Declaration) → Type 0
-ClosesSector s image r image' g = Declares (SectorClosed s image r.allocation image') r.part g
-
--- a program, by a plan
-abbrev pub CompilesProgram : SectorEnds → List ℕ → ProgramAnswer → List ℕ → List ℕ → Got Program → Type 0
-CompilesProgram plan image r table' image' g = Declares (ProgramEmitted plan image r.checked r.allocation r.end table' image') r.part g
+abbrev pub ClosesSector : Allocation → List ℕ → Answer Allocation → List ℕ → Got (List Declaration) → Type 0
+ClosesSector s image r image' g = Declares (λ new s'. SectorClosed s image s' image' new) r g
 
 module _ (s : Scope) (table image : List ℕ) where
   -- items, at either level
-  abbrev pub DeclaresItems : ScopeAnswer → List ℕ → List ℕ → Got (List (Name × Item)) → Type 0
-  DeclaresItems r table' image' g = Declares (ItemsDeclared s table image r.scope table' image') r.part g
+  abbrev pub DeclaresItems : Answer Scope → List ℕ → List ℕ → Got (List (Name × Item)) → Type 0
+  DeclaresItems r table' image' g = Declares (λ items s'. ItemsDeclared s table image s' table' image' items) r g
 
   -- one of them
-  abbrev pub DeclaresItem : ScopeAnswer → List ℕ → List ℕ → Got (Name × Item) → Type 0
-  DeclaresItem r table' image' g = Declares (λ one. ItemsDeclared s table image r.scope table' image' (one ∷ [])) r.part g
+  abbrev pub DeclaresItem : Answer Scope → List ℕ → List ℕ → Got (Name × Item) → Type 0
+  DeclaresItem r table' image' g = Declares (λ one s'. ItemsDeclared s table image s' table' image' (one ∷ [])) r g
+
+-- an array's name and size
+abbrev pub tree_head : Head → Name × ℕ
+tree_head h = (unpack h.name, h.size)
 
 -- ---- What is parsed
 
@@ -102,13 +100,26 @@ module _ (source : List ℕ) where
   value_list_at names size at = separated source Kinds.comma (parse_initial source names size []) (parse_initial source names size) at
 
   -- a limit at the last token of a part, and the token that must follow
-  abbrev pub limit_then_expect : ℕ → Token → ℕ → Got ℕ
-  limit_then_expect limit last kind = within limit last (and_then (expect kind source last.next) (λ _ next. got 0 next))
+  abbrev pub limit_then_expect : ℕ → Token → ℕ → Got Token
+  limit_then_expect limit last kind = and_then (within limit last (got last last.next)) (λ _ n. expect kind source n)
 
   -- the same at `.END`
-  abbrev pub end_then_expect : ℕ → ℕ → ℕ → Got ℕ
+  abbrev pub end_then_expect : ℕ → ℕ → ℕ → Got Token
   end_then_expect limit kind at = and_then (expect Kinds.END source at) (λ last _. limit_then_expect limit last kind)
 
   -- `]`, where the limit of an array's space is
-  abbrev pub closing_at : ℕ → ℕ → Got ℕ
-  closing_at limit at = and_then (expect Kinds.right_bracket source at) (λ t n. within limit t (got 0 n))
+  abbrev pub closing_at : ℕ → ℕ → Got Token
+  closing_at limit at = and_then (expect Kinds.right_bracket source at) (λ t _. within limit t (got t t.next))
+
+module _ (s : Allocation) (table image : List ℕ) where
+  -- a procedure's locals, link, statements and return, its sector's pool at an address
+  abbrev pub EmitsBody : ℕ → Packed → Answer Output → List ℕ → List ℕ → Got (List (Name × Item) × Stmts) → Type 0
+  EmitsBody pool name r table' image' g = Declares (λ inside o. BodyEmitted s table image pool (unpack name) o table' image' inside) r g
+
+  -- the main body and the last pool
+  abbrev pub EmitsMain : SectorEnds → Answer Output → List ℕ → Got Stmts → Type 0
+  EmitsMain plan r image' g = Declares (λ main o. MainEmitted plan s table image o image' main) r g
+
+-- a program, by a plan
+abbrev pub CompilesProgram : SectorEnds → List ℕ → Answer Reading → List ℕ → List ℕ → Got Program → Type 0
+CompilesProgram plan image r table' image' g = Declares (λ p x. ProgramEmitted plan image x.checked x.allocation x.end table' image' p) r g

@@ -1,27 +1,23 @@
 -- The definitions of declarations by the allocation before them instead of the declarations: each gives the new declarations.
-use Rattle.std.specs.Prelude.{ℕ, Bool, true, false, leb}
-use mathlib.Core.List.{List, [], ◌∷◌, foldl}
-use Rattle.prelude.specs.Choice.{whether, between}
 use Rattle.source.specs.Kinds
+use Rattle.std.specs.Prelude.{ℕ, Bool, leb, true, false}
+use mathlib.Core.List.{List, [], ◌∷◌, foldl}
 use Rattle.source.specs.declared.Token.{Token}
 use Rattle.source.specs.Tokens.{token_at}
-use Rattle.tree.specs.Tree.{Name, Item, Stmts, Declaration}
+use Rattle.tree.specs.Tree.{Name, Item, Declaration, Stmts}
 use Rattle.tree.specs.Symbols.{Scope, declare_item, local_scope}
 use Rattle.layout.specs.Allocation.{Allocation, allocate}
 use Rattle.layout.specs.Limits.{name_limit, space_limit, declaration_limit}
-use Rattle.grammar.specs.Parse.{Got, and_then, within, is, expect, snoc}
+use Rattle.grammar.specs.Parse.{Got, and_then, within, expect, snoc, is}
 use Rattle.grammar.specs.Parse.Got.{got}
 use Rattle.grammar.specs.Cells.{parse_in_range}
-use Rattle.grammar.specs.Statements.{parse_outermost}
 use Rattle.grammar.specs.Declarations.{ItemKeyword, new_name, size_of, parse_local, parse_list, parse_initials, parse_locals}
+use Rattle.prelude.specs.Choice.{whether, between}
+use Rattle.grammar.specs.Statements.{parse_outermost}
 
 unfoldable pub declarations_of : List (Name × Item) → List Declaration
 declarations_of [] = []
 declarations_of (x ∷ xs) = Declaration.item x.0 x.1 ∷ declarations_of xs
-
--- whether a declaration begins with a token of a kind
-abbrev pub begins : ℕ → Bool
-begins kind = between Kinds.INTEGER Kinds.ACCUMULATOR kind
 
 module _ (source : List ℕ) where
   -- a list of items
@@ -58,10 +54,15 @@ module _ (source : List ℕ) where
   unfoldable pub limited_in : Allocation → Declaration → Token → Got (List Declaration)
   limited_in st d last = within (declaration_limit st d) last (and_then (expect Kinds.semicolon source last.next) (λ _ next. got (d ∷ []) next))
 
+-- whether a declaration begins with a token of a kind
+abbrev pub begins : ℕ → Bool
+begins kind = between Kinds.INTEGER Kinds.ACCUMULATOR kind
+
+module _ (source : List ℕ) where
   -- a procedure up to its `.BEGIN`: its name
   unfoldable pub heading_in : Scope → ℕ → Got Name
   heading_in scope at =
-      and_then (global_name scope at) (λ name n.
+      and_then (global_name source scope at) (λ name n.
       and_then (expect Kinds.semicolon source n) (λ _ m.
       and_then (expect Kinds.BEGIN source m) (λ _ k. got name k)))
 
@@ -77,7 +78,7 @@ module _ (source : List ℕ) where
       and_then (heading_in st.scope at) (λ name n.
       and_then (body_in st.scope name n) (λ inside m.
       and_then (expect Kinds.END source m) (λ last _.
-      limited_in st (Declaration.procedure name accumulator inside.0 inside.1) last)))
+      limited_in source st (Declaration.procedure name accumulator inside.0 inside.1) last)))
 
   unfoldable pub accumulator_in : Allocation → ℕ → Got (List Declaration)
   accumulator_in st at = and_then (expect Kinds.PROCEDURE source at) (λ _ n. procedure_in st true n)
@@ -85,10 +86,10 @@ module _ (source : List ℕ) where
   -- the declaration that a token begins
   unfoldable pub declaration_in : Bool → Allocation → Token → Got (List Declaration)
   declaration_in checked st t =
-      whether (is Kinds.INTEGER t) (λ _. items_in ItemKeyword.integer st t.next) λ _.
-      whether (is Kinds.CONSTANT t) (λ _. items_in ItemKeyword.constant st t.next) λ _.
-      whether (is Kinds.COMPCONSTANT t) (λ _. items_in ItemKeyword.compconstant st t.next) λ _.
-      whether (is Kinds.ARRAY t) (λ _. arrays_in checked st t.next) λ _.
-      whether (is Kinds.NEXTSECTOR t) (λ _. limited_in st Declaration.next_sector t) λ _.
+      whether (is Kinds.INTEGER t) (λ _. items_in source ItemKeyword.integer st t.next) λ _.
+      whether (is Kinds.CONSTANT t) (λ _. items_in source ItemKeyword.constant st t.next) λ _.
+      whether (is Kinds.COMPCONSTANT t) (λ _. items_in source ItemKeyword.compconstant st t.next) λ _.
+      whether (is Kinds.ARRAY t) (λ _. arrays_in source checked st t.next) λ _.
+      whether (is Kinds.NEXTSECTOR t) (λ _. limited_in source st Declaration.next_sector t) λ _.
       whether (is Kinds.PROCEDURE t) (λ _. procedure_in st false t.next) λ _.
       accumulator_in st t.next

@@ -4,5 +4,6 @@ pub mod Scopes
 pub mod Allocations
 pub mod Forms
 pub mod Values
+pub mod Frames
 pub mod Procedures
 pub mod Clauses

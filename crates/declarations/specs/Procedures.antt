@@ -1,4 +1,4 @@
--- Procedures and the main body: what is emitted before their statements, and after.
+-- Procedures, the main body and the program: what is emitted.
 use Rattle.std.specs.Prelude.{ℕ, suc, ◌+◌, ◌*◌, ◌≡◌, Bool, eqb, leb, length, set, take}
 use mathlib.Core.List.{List, [], ◌∷◌, foldl}
 use Rattle.std.proofs.Math.Option.{Option, none, some}
@@ -21,42 +21,14 @@ use Rattle.emitter.specs.Lays.{Lays}
 use Rattle.layout.specs.Emission.{stored, local_values, emit_main, emit_program}
 use Rattle.emitter.specs.declared.Output.{Output}
 use Rattle.declarations.specs.declared.SectorEnds.{SectorEnds}
-use Rattle.declarations.specs.declared.Scope.{Scope}
 use Rattle.declarations.specs.declared.Allocation.{Allocation}
-use Rattle.declarations.specs.declared.KeywordFound.{KeywordFound}
-use Rattle.declarations.specs.declared.ProgramAnswer.{ProgramAnswer}
-use Rattle.declarations.specs.Declares.{Declares, Lengths}
-use Rattle.declarations.specs.Scopes.{tree_keyword, scope_of, table_words, Room}
+use Rattle.declarations.specs.Clauses.{Answer}
+use Rattle.declarations.specs.declared.Reading.{Reading}
+use Rattle.declarations.specs.Declares.{Declares}
+use Rattle.declarations.specs.Frames.{framed}
+use Rattle.declarations.specs.Scopes.{table_words}
 use Rattle.declarations.specs.Allocations.{end_of, allocation_of, SoundAllocation}
 use Rattle.layout.specs.Addresses.{first_global}
-
--- the item keyword of a kind of token
-unfoldable pub keyword_of : ℕ → Option declarations.ItemKeyword
-keyword_of kind = given (find (eqb kind) declarations.item_keywords) (λ row. some row.1) (λ _. none)
-
-unfoldable pub tree_found : KeywordFound → Option declarations.ItemKeyword
-tree_found (KeywordFound.Keyword w) = some (tree_keyword w)
-tree_found KeywordFound.Nothing = none
-
--- what a procedure's locals are declared under: its name is taken, and not yet known
-pub record InnerScope (s : Allocation) (table : List ℕ) (name : Name) (inner : Scope) (table' : List ℕ) : Type 0 where
-  pub scope : scope_of inner table' ≡ local_scope (allocation_of s table).scope name
-  pub room : Room inner table'
-  pub names : inner.names ≡ s.names + 1
-  pub base : inner.base ≡ s.output.next
-  pub kept : take (7 * s.names) table' ≡ take (7 * s.names) table
-
--- what is emitted of a procedure before its statements: its locals, its word in sector 0, and its link (W16, A3)
-abbrev pub framed : layout.Allocation → Name → List (Name × Item) → List ℕ → emission.Emitted
-framed st name locals image =
-    let link = layout.link_of st name locals in
-    record { image = set (set (stored image st.next (local_values locals)) (first_global + st.scope.taken) link) link 0; next = suc link; pool = st.pool }
-
-pub record FrameEmitted (s : Allocation) (table image : List ℕ) (name : Name) (names link : ℕ) (output : Output) (table' image' : List ℕ) (locals : List (Name × Item)) : Type 0 where
-  pub linked : link ≡ layout.link_of (allocation_of s table) name locals
-  pub alive : live_names names table' ≡ (foldl declare_item (local_scope (allocation_of s table).scope name) locals).names
-  pub kept : take (7 * s.names) table' ≡ take (7 * s.names) table
-  pub laid : emitted.emitted_by output image' ≡ framed (allocation_of s table) name locals image
 
 -- where the words of a body find what they name
 abbrev pub bases_at : ℕ → Allocation → emission.Bases
@@ -106,6 +78,11 @@ pub record ProgramEmitted (plan : SectorEnds) (image : List ℕ) (flag : Bool) (
 unfoldable pub program_on : List ℕ → List ℕ → Got Program
 program_on source table = whether (leb table_words (length table)) (λ _. program_in source) (λ _. failed 2 0)
 
-abbrev pub Programs : SectorEnds → List ℕ → List ℕ → List ℕ → ProgramAnswer → List ℕ → List ℕ → Type 0
+-- the lengths of the table and of the image
+pub record Lengths (table image table' image' : List ℕ) : Type 0 where
+  pub table_kept : length table' ≡ length table
+  pub image_kept : length image' ≡ length image
+
+abbrev pub Programs : SectorEnds → List ℕ → List ℕ → List ℕ → Answer Reading → List ℕ → List ℕ → Type 0
 Programs plan source table image r table' image' =
-    Declares (ProgramEmitted plan image r.checked r.allocation r.end table' image') r.part (program_on source table) × Lengths table image table' image'
+    Declares (λ p x. ProgramEmitted plan image x.checked x.allocation x.end table' image' p) r (program_on source table) × Lengths table image table' image'

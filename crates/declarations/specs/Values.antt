@@ -1,5 +1,5 @@
 -- Initial values read and stored.
-use Rattle.std.specs.Prelude.{ℕ, ◌≤◌, ◌≡◌, List, ltb, length}
+use Rattle.std.specs.Prelude.{ℕ, ◌+◌, ◌≤◌, ◌<◌, ◌≡◌, List, ltb, length, set}
 use Rattle.prelude.specs.Choice.{whether}
 use Rattle.source.specs.Tokens.{token_at}
 use Rattle.tree.specs.Symbols.{Names}
@@ -18,3 +18,9 @@ pub record Filled (first size : ℕ) (image : List ℕ) (count : ℕ) (image' : 
   pub laid : image' ≡ stored image first values
   pub counted : length values ≡ count
   pub few : count ≤ size
+
+-- one of them, stored behind the others
+pub record StoresValue (first size count : ℕ) (image image' : List ℕ) (value after : ℕ) : Type 0 where
+  pub laid : image' ≡ set image (first + count) value
+  pub counted : after ≡ count + 1
+  pub few : count < size

@@ -5,31 +5,14 @@ ghost use Rattle.tree.specs.Symbols.{local_scope};
 ghost use Rattle.grammar.specs.Declarations.{parse_locals};
 ghost use Rattle.symbols.specs.Packing.{unpack};
 ghost use Rattle.declarations.specs.Allocations.{allocation_of};
-ghost use Rattle.declarations.specs.Procedures.{InnerScope};
+ghost use Rattle.declarations.specs.Frames.{InnerScope};
 ghost use Rattle.declarations.specs.Clauses.{ReadyForName, EmitsFrame};
 
 use crate::globals::store_global;
-use crate::lists::locals;
-use crate::{Allocation, FrameAnswer, Scope};
+use crate::{Allocation, Frame, Scope};
 use emitter::{Output, store};
-use parser::Part;
+use parser::{Part, Read};
 use symbols::{Packed, Symbol};
-
-// What a procedure's locals are declared under: its name is taken, and not yet known.
-fn local_scope(table: &mut [u16], allocation: Allocation, name: Packed) -> Scope
-    requires { ReadyForName allocation table.old }
-    ensures { InnerScope allocation table.old (unpack name) result table.new }
-{
-    let names = allocation.names;
-    let taken = allocation.taken;
-    symbols::declare(table, names, name, 0, Symbol::Unknown);
-    Scope {
-        names: names + 1,
-        level: taken + 1,
-        taken: 0,
-        base: allocation.output.next,
-    }
-}
 
 // A procedure's word, and its link.
 fn emit_link(image: &mut [u16], taken: u16, link: u16)
@@ -39,42 +22,51 @@ fn emit_link(image: &mut [u16], taken: u16, link: u16)
     store(image, link as usize, 0);
 }
 
-// The name, not yet known; the locals above it; the procedure's word and its link.
-pub fn frame(
-    source: &[u8],
-    table: &mut [u16],
-    image: &mut [u16],
-    allocation: Allocation,
-    name: Packed,
-    at: usize,
-) -> FrameAnswer
-    requires { ReadyForName allocation table.old }
-    ensures { EmitsFrame allocation table.old image.old name result table.new image.new
-        (parse_locals source.now (local_scope (allocation_of allocation table.old).scope (unpack name)) at) }
-{
-    let inner = local_scope(table, allocation, name);
-    let output = allocation.output;
-    let list = locals(source, table, image, inner, at);
-    let part = list.part;
-    let after = list.scope;
-    let Part::Read { next: _ } = part else {
-        return FrameAnswer {
-            part,
-            names: 0,
-            link: 0,
-            output,
+impl Allocation {
+    // What a procedure's locals are declared under: its name is taken, and not yet known.
+    fn local_scope(self, table: &mut [u16], name: Packed) -> Scope
+        requires { ReadyForName self table.old }
+        ensures { InnerScope self table.old (unpack name) result table.new }
+    {
+        symbols::declare(table, self.names, name, 0, Symbol::Unknown);
+        Scope {
+            names: self.names + 1,
+            level: self.taken + 1,
+            taken: 0,
+            base: self.output.next,
+        }
+    }
+
+    /// The name, not yet known; the locals above it; the procedure's word and its link.
+    pub(crate) fn frame(
+        self,
+        source: &[u8],
+        table: &mut [u16],
+        image: &mut [u16],
+        name: Packed,
+        at: usize,
+    ) -> Read<Frame>
+        requires { ReadyForName self table.old }
+        ensures { EmitsFrame self table.old image.old name result table.new image.new
+            (parse_locals source.now (local_scope (allocation_of self table.old).scope (unpack name)) at) }
+    {
+        let inner = self.local_scope(table, name);
+        let list = inner.locals(source, table, image, at);
+        let Ok(Part { value: after, next }) = list else {
+            return Err(list.unwrap_err());
         };
-    };
-    let link = output.next + after.taken;
-    emit_link(image, allocation.taken, link);
-    let pool = output.pool;
-    FrameAnswer {
-        part,
-        names: after.names,
-        link,
-        output: Output {
-            next: link + 1,
-            pool,
-        },
+        let link = self.output.next + after.taken;
+        emit_link(image, self.taken, link);
+        Ok(Part {
+            value: Frame {
+                names: after.names,
+                link,
+                output: Output {
+                    next: link + 1,
+                    ..self.output
+                },
+            },
+            next,
+        })
     }
 }

@@ -5,121 +5,30 @@ ghost use Rattle.tree.specs.Symbols.{item_symbol};
 ghost use Rattle.grammar.specs.Cells.{parse_constant};
 ghost use Rattle.grammar.specs.Declarations.{item_limit, item_from, parse_item};
 ghost use Rattle.symbols.specs.Packing.{unpack};
-ghost use Rattle.symbols.specs.Table.{live_names};
 ghost use Rattle.symbols.specs.Trees.{tree_symbol};
+ghost use Rattle.cells.specs.Answers.{live};
 ghost use Rattle.layout.specs.Emission.{stored, item_values};
-ghost use Rattle.declarations.specs.Declares.{Gives};
-ghost use Rattle.declarations.specs.Scopes.{scope_of, tree_keyword, tree_item, Room};
+ghost use Rattle.parser.specs.Reads.{Gives};
+ghost use Rattle.declarations.specs.Scopes.{scope_of, tree_keyword, tree_item, tree_named, Limits, Room};
 ghost use Rattle.declarations.specs.Clauses.{DeclaresItem, after_token};
 
-use crate::names::{name_limit, new_name};
-use crate::{Item, ItemAnswer, ItemKeyword, Scope, ScopeAnswer};
-use cells::{ConstantAnswer, constant_at};
+use crate::{Item, ItemKeyword, Scope};
+use cells::Reader;
 use emitter::store;
-use parser::{Part, expect};
+use parser::{Cause, Part, Read, expect};
 use source::kind::EQUAL;
-use symbols::{Packed, Symbol, id_of};
-
-#[tactic(auto, unfolding(grammar::specs::Declarations::item_limit, crate::specs::Scopes::tree_keyword))]
-fn item_limit(keyword: ItemKeyword, scope: Scope) -> u16
-    ensures { result ≡ item_limit (tree_keyword keyword) (scope_of scope []) }
-{
-    match keyword {
-        ItemKeyword::Integer => name_limit(scope),
-        ItemKeyword::Constant => name_limit(scope),
-        ItemKeyword::Compconstant => 0,
-    }
-}
+use symbols::{Names, Packed, Symbol, id_of};
 
 // `=` and a constant.
-fn value_at(source: &[u8], table: &[u16], names: usize, at: usize) -> ConstantAnswer
-    ensures { Gives result.part result.value
-        (after_token source.now kinds.equal (parse_constant source.now (live_names names table.now)) at) }
+#[tactic(auto, unfolding(grammar::specs::Parse::and_then))]
+fn value_at(reader: &Reader<'_>, at: usize) -> Read<u16>
+    ensures { Gives (λ v. v) result (after_token reader.now.source.now kinds.equal (parse_constant reader.now.source.now (live reader.now)) at) }
 {
-    let part = expect(source, EQUAL, at);
-    let Part::Read { next } = part else {
-        return ConstantAnswer { part, value: 0 };
+    let equal = expect(reader.source, EQUAL, at);
+    let Ok(Part { value: _, next }) = equal else {
+        return Err(equal.unwrap_err());
     };
-    constant_at(source, table, names, next)
-}
-
-// An item after its name.
-fn item_from(
-    source: &[u8],
-    table: &[u16],
-    scope: Scope,
-    keyword: ItemKeyword,
-    name: Packed,
-    at: usize,
-) -> ItemAnswer
-    ensures { Gives result.part (unpack result.name, tree_item result.item)
-        (item_from source.now (tree_keyword keyword) (scope_of scope table.now) (unpack name) at) }
-{
-    match keyword {
-        ItemKeyword::Integer => ItemAnswer {
-            part: Part::Read { next: at },
-            name,
-            item: Item::Integer,
-        },
-        ItemKeyword::Constant => {
-            let valued = value_at(source, table, scope.names, at);
-            let part = valued.part;
-            let value = valued.value;
-            ItemAnswer {
-                part,
-                name,
-                item: Item::Constant { value },
-            }
-        }
-        ItemKeyword::Compconstant => {
-            let valued = value_at(source, table, scope.names, at);
-            let part = valued.part;
-            let value = valued.value;
-            ItemAnswer {
-                part,
-                name,
-                item: Item::Compconstant { value },
-            }
-        }
-    }
-}
-
-// A name and its item.
-fn item_at(
-    source: &[u8],
-    table: &[u16],
-    scope: Scope,
-    keyword: ItemKeyword,
-    at: usize,
-) -> ItemAnswer
-    requires { 7 * scope.names ≤ length table.now }
-    ensures { Gives result.part (unpack result.name, tree_item result.item)
-        (parse_item source.now (tree_keyword keyword) (scope_of scope table.now) at) }
-{
-    let named = new_name(source, table, scope, item_limit(keyword, scope), at);
-    let part = named.part;
-    let name = named.name;
-    let Part::Read { next } = part else {
-        return ItemAnswer {
-            part,
-            name,
-            item: Item::Integer,
-        };
-    };
-    item_from(source, table, scope, keyword, name, next)
-}
-
-// What an item's name will stand for.
-#[tactic(auto, unfolding(tree::specs::Symbols::item_symbol, symbols::specs::Trees::tree_symbol, crate::specs::Scopes::tree_item))]
-fn symbol_of(scope: Scope, item: Item) -> Symbol
-    ensures { tree_symbol result ≡ item_symbol (scope_of scope []) (tree_item item) }
-{
-    let id = id_of(scope.level, scope.taken);
-    match item {
-        Item::Integer => Symbol::Integer { id },
-        Item::Constant { value } => Symbol::Constant { id, value },
-        Item::Compconstant { value } => Symbol::Compconstant { value },
-    }
+    reader.constant_at(next)
 }
 
 // The item's word, if it takes one; and how many it takes (A3, W16).
@@ -128,54 +37,129 @@ fn emit_item(image: &mut [u16], at: usize, item: Item) -> u16
     ensures { (image.new ≡ stored image.old at (item_values (tree_item item)))
         × (result ≡ length (item_values (tree_item item))) × (result ≤ 1) }
 {
-    match item {
-        Item::Integer => {
-            store(image, at, 0);
-            1
-        }
-        Item::Constant { value } => {
-            store(image, at, value);
-            1
-        }
-        Item::Compconstant { value: _ } => 0,
-    }
+    let value = match item {
+        Item::Integer => 0,
+        Item::Constant { value } => value,
+        Item::Compconstant { value: _ } => return 0,
+    };
+    store(image, at, value);
+    1
 }
 
-// A name and its item, declared and emitted.
-pub fn item(
-    source: &[u8],
-    table: &mut [u16],
-    image: &mut [u16],
-    scope: Scope,
-    keyword: ItemKeyword,
-    at: usize,
-) -> ScopeAnswer
-    requires { Room scope table.old }
-    ensures { DeclaresItem scope table.old image.old result table.new image.new
-        (parse_item source.now (tree_keyword keyword) (scope_of scope table.old) at) }
-{
-    let one = item_at(source, table, scope, keyword, at);
-    let part = one.part;
-    let Part::Read { next: _ } = part else {
-        return ScopeAnswer { part, scope };
-    };
-    let name = one.name;
-    let value = one.item;
-    let Scope {
-        names,
-        level,
-        taken,
-        base,
-    } = scope;
-    let size = emit_item(image, base as usize + taken as usize, value);
-    symbols::declare(table, names, name, level, symbol_of(scope, value));
-    ScopeAnswer {
-        part,
-        scope: Scope {
-            names: names + 1,
-            level,
-            taken: taken + size,
-            base,
-        },
+impl Scope {
+    #[tactic(auto, unfolding(grammar::specs::Declarations::item_limit, crate::specs::Scopes::tree_keyword))]
+    fn item_limit(self, keyword: ItemKeyword) -> Result<(), Cause>
+        ensures { Limits result (item_limit (tree_keyword keyword) (scope_of self [])) }
+    {
+        match keyword {
+            ItemKeyword::Integer | ItemKeyword::Constant => self.name_limit(),
+            ItemKeyword::Compconstant => Ok(()),
+        }
+    }
+
+    // An item after its name.
+    #[tactic(auto, unfolding(grammar::specs::Declarations::item_from, grammar::specs::Declarations::parse_value, crate::specs::Scopes::tree_keyword, crate::specs::Scopes::tree_item, grammar::specs::Parse::and_then))]
+    fn item_from(
+        self,
+        source: &[u8],
+        table: &[u16],
+        keyword: ItemKeyword,
+        name: Packed,
+        at: usize,
+    ) -> Read<(Packed, Item)>
+        ensures { Gives tree_named result (item_from source.now (tree_keyword keyword) (scope_of self table.now) (unpack name) at) }
+    {
+        if keyword == ItemKeyword::Integer {
+            return Ok(Part {
+                value: (name, Item::Integer),
+                next: at,
+            });
+        }
+        let reader = Reader {
+            source,
+            names: Names {
+                words: table,
+                count: self.names,
+            },
+        };
+        let read = value_at(&reader, at);
+        let Ok(Part { value, next }) = read else {
+            return Err(read.unwrap_err());
+        };
+        let item = match keyword {
+            ItemKeyword::Constant => Item::Constant { value },
+            _ => Item::Compconstant { value },
+        };
+        Ok(Part {
+            value: (name, item),
+            next,
+        })
+    }
+
+    // A name and its item.
+    #[tactic(auto, unfolding(grammar::specs::Declarations::parse_item, grammar::specs::Parse::and_then))]
+    fn item_at(
+        self,
+        source: &[u8],
+        table: &[u16],
+        keyword: ItemKeyword,
+        at: usize,
+    ) -> Read<(Packed, Item)>
+        requires { 7 * self.names ≤ length table.now }
+        ensures { Gives tree_named result (parse_item source.now (tree_keyword keyword) (scope_of self table.now) at) }
+    {
+        let named = self.new_name(source, table, self.item_limit(keyword), at);
+        let Ok(Part { value: name, next }) = named else {
+            return Err(named.unwrap_err());
+        };
+        self.item_from(source, table, keyword, name, next)
+    }
+
+    // What an item's name will stand for.
+    #[tactic(auto, unfolding(tree::specs::Symbols::item_symbol, symbols::specs::Trees::tree_symbol, crate::specs::Scopes::tree_item))]
+    fn symbol_of(self, item: Item) -> Symbol
+        ensures { tree_symbol result ≡ item_symbol (scope_of self []) (tree_item item) }
+    {
+        let id = id_of(self.level, self.taken);
+        match item {
+            Item::Integer => Symbol::Integer { id },
+            Item::Constant { value } => Symbol::Constant { id, value },
+            Item::Compconstant { value } => Symbol::Compconstant { value },
+        }
+    }
+
+    // A name and its item, declared and emitted.
+    pub(crate) fn item(
+        self,
+        source: &[u8],
+        table: &mut [u16],
+        image: &mut [u16],
+        keyword: ItemKeyword,
+        at: usize,
+    ) -> Read<Scope>
+        requires { Room self table.old }
+        ensures { DeclaresItem self table.old image.old result table.new image.new
+            (parse_item source.now (tree_keyword keyword) (scope_of self table.old) at) }
+    {
+        let read = self.item_at(source, table, keyword, at);
+        let Ok(
+            Part {
+                value: (name, item),
+                next,
+            },
+        ) = read
+        else {
+            return Err(read.unwrap_err());
+        };
+        let size = emit_item(image, self.base as usize + self.taken as usize, item);
+        symbols::declare(table, self.names, name, self.level, self.symbol_of(item));
+        Ok(Part {
+            value: Scope {
+                names: self.names + 1,
+                taken: self.taken + size,
+                ..self
+            },
+            next,
+        })
     }
 }

@@ -1,41 +1,38 @@
 // Procedures.
 ghost use Rattle.symbols.specs.Packing.{unpack};
-ghost use Rattle.declarations.specs.Declares.{Gives};
+ghost use Rattle.parser.specs.Reads.{Gives};
 ghost use Rattle.declarations.specs.Allocations.{allocation_of};
+ghost use Rattle.declarations.specs.Clauses.{Ready, ReadyForName, Allocates};
 ghost use Rattle.declarations.specs.Forms.{heading_in, body_in, procedure_in, accumulator_in};
-ghost use Rattle.declarations.specs.Clauses.{Ready, ReadyForName, Allocates, EmitsBody};
+ghost use Rattle.declarations.specs.Clauses.{EmitsBody};
 
-use crate::frames::frame;
-use crate::globals::{declare_global, global_name};
-use crate::limits::end_then_expect;
-use crate::sectors::end_of;
-use crate::{Allocation, AllocationAnswer, NameAnswer, SectorEnds};
-use emitter::{Context, emit_return};
-use parser::{Part, expect};
+use crate::bodies::statements_under;
+use emitter::{Context, Output, emit_return};
+use parser::{Part, Read, expect};
 use source::kind::{BEGIN, PROCEDURE, SEMICOLON};
-use statements::statements;
+use crate::limits::end_then_expect;
+use crate::{Allocation, SectorEnds};
 use symbols::{Packed, Symbol};
 
 // A procedure up to its `.BEGIN`.
-fn heading(source: &[u8], table: &[u16], allocation: Allocation, at: usize) -> NameAnswer
+#[tactic(auto, unfolding(crate::specs::Forms::heading_in, grammar::specs::Parse::and_then))]
+fn heading(source: &[u8], table: &[u16], allocation: Allocation, at: usize) -> Read<Packed>
     requires { Ready allocation table.now }
-    ensures { Gives result.part (unpack result.name)
-        (heading_in source.now (allocation_of allocation table.now).scope at) }
+    ensures { Gives unpack result (heading_in source.now (allocation_of allocation table.now).scope at) }
 {
-    let named = global_name(source, table, allocation, at);
-    let part = named.part;
-    let name = named.name;
-    let Part::Read { next } = part else {
+    let named = allocation.global_name(source, table, at);
+    let Ok(Part { value: name, next }) = named else {
         return named;
     };
-    let part = expect(source, SEMICOLON, next);
-    let Part::Read { next } = part else {
-        return NameAnswer { part, name };
+    let semicolon = expect(source, SEMICOLON, next);
+    let Ok(Part { value: _, next }) = semicolon else {
+        return Err(semicolon.unwrap_err());
     };
-    NameAnswer {
-        part: expect(source, BEGIN, next),
-        name,
-    }
+    let begin = expect(source, BEGIN, next);
+    let Ok(Part { value: _, next }) = begin else {
+        return Err(begin.unwrap_err());
+    };
+    Ok(Part { value: name, next })
 }
 
 // A procedure's locals, statements and return.
@@ -47,38 +44,39 @@ fn body(
     allocation: Allocation,
     name: Packed,
     at: usize,
-) -> expressions::OutputAnswer
+) -> Read<Output>
     requires { ReadyForName allocation table.old }
     ensures { EmitsBody allocation table.old image.old pool name result table.new image.new
         (body_in source.now (allocation_of allocation table.old).scope (unpack name) at) }
 {
-    let before = frame(source, table, image, allocation, name, at);
-    let part = before.part;
-    let output = before.output;
-    let Part::Read { next } = part else {
-        return expressions::OutputAnswer { part, output };
+    let before = allocation.frame(source, table, image, name, at);
+    let Ok(Part { value: frame, next }) = before else {
+        return Err(before.unwrap_err());
     };
-    let link = before.link;
     let context = Context {
-        names: before.names,
         pool,
         locals: allocation.output.next,
     };
-    let inside = statements(source, table, image, context, next, output);
-    let part = inside.part;
-    let after = inside.output;
-    let Part::Read { next: _ } = part else {
+    let inside = statements_under(
+        source,
+        table,
+        image,
+        frame.names,
+        context,
+        frame.output,
+        next,
+    );
+    let Ok(Part { value: after, next }) = inside else {
         return inside;
     };
-    expressions::OutputAnswer {
-        part,
-        output: emit_return(image, after, link),
-    }
+    Ok(Part {
+        value: emit_return(image, after, frame.link),
+        next,
+    })
 }
 
 // A procedure, after `.PROCEDURE`. Its name is declared again, over its entry of before, which drops the locals, and is known from then on.
-#[tactic(auto, using(crate::proofs::ParseLaws::for_procedure, crate::proofs::NameLaws::for_procedure, parser::proofs::ReadLaws::came, parser::proofs::ReadLaws::failed_as, crate::proofs::ProcedureLaws::for_procedure))]
-pub fn procedure(
+pub(crate) fn procedure(
     source: &[u8],
     table: &mut [u16],
     image: &mut [u16],
@@ -86,54 +84,58 @@ pub fn procedure(
     allocation: Allocation,
     accumulator: bool,
     at: usize,
-) -> AllocationAnswer
+) -> Read<Allocation>
     requires { Ready allocation table.old }
     ensures { Allocates allocation table.old image.old plan result table.new image.new
         (procedure_in source.now (allocation_of allocation table.old) accumulator at) }
 {
     let named = heading(source, table, allocation, at);
-    let part = named.part;
-    let name = named.name;
-    let Part::Read { next } = part else {
-        return AllocationAnswer { part, allocation };
+    let Ok(Part { value: name, next }) = named else {
+        return Err(named.unwrap_err());
     };
-    let pool = end_of(plan, allocation.sectors);
+    let pool = plan.end_of(allocation.sectors);
     let inside = body(source, table, image, pool, allocation, name, next);
-    let part = inside.part;
-    let output = inside.output;
-    let Part::Read { next } = part else {
-        return AllocationAnswer { part, allocation };
+    let Ok(
+        Part {
+            value: output,
+            next,
+        },
+    ) = inside
+    else {
+        return Err(inside.unwrap_err());
     };
     let closed = allocation.sectors.count;
     let array = allocation.array;
-    let part = end_then_expect(source, output, closed, array, SEMICOLON, next);
-    let Part::Read { next: _ } = part else {
-        return AllocationAnswer { part, allocation };
+    let ended = end_then_expect(source, output, closed, array, SEMICOLON, next);
+    let Ok(Part { value: _, next }) = ended else {
+        return Err(ended.unwrap_err());
     };
     let symbol = Symbol::Procedure {
         number: allocation.taken,
         accumulator,
     };
-    let allocation = declare_global(table, allocation, output, array, name, symbol);
-    AllocationAnswer { part, allocation }
+    Ok(Part {
+        value: allocation.with_global(table, output, array, name, symbol),
+        next,
+    })
 }
 
 // The same after `.ACCUMULATOR`.
-pub fn accumulator(
+pub(crate) fn accumulator(
     source: &[u8],
     table: &mut [u16],
     image: &mut [u16],
     plan: SectorEnds,
     allocation: Allocation,
     at: usize,
-) -> AllocationAnswer
+) -> Read<Allocation>
     requires { Ready allocation table.old }
     ensures { Allocates allocation table.old image.old plan result table.new image.new
         (accumulator_in source.now (allocation_of allocation table.old) at) }
 {
-    let part = expect(source, PROCEDURE, at);
-    let Part::Read { next } = part else {
-        return AllocationAnswer { part, allocation };
+    let word = expect(source, PROCEDURE, at);
+    let Ok(Part { value: _, next }) = word else {
+        return Err(word.unwrap_err());
     };
     procedure(source, table, image, plan, allocation, true, next)
 }

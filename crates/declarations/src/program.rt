@@ -2,32 +2,30 @@
 ghost use Rattle.std.specs.Prelude.{◌≡◌, ◌≤◌, length};
 ghost use Rattle.source.specs.Kinds as kinds;
 ghost use Rattle.grammar.specs.Declarations.{parse_checked, parse_declarations};
-ghost use Rattle.declarations.specs.Declares.{Gives};
+ghost use Rattle.parser.specs.Reads.{Gives};
 ghost use Rattle.declarations.specs.Allocations.{allocation_of};
+ghost use Rattle.declarations.specs.Clauses.{Ready, Allocates, after_token};
+ghost use Rattle.declarations.specs.Scopes.{table_words};
 ghost use Rattle.declarations.specs.Forms as forms;
 ghost use Rattle.declarations.specs.Procedures.{main_in, AtStart, program_in, Programs};
-ghost use Rattle.declarations.specs.Clauses.{Ready, Allocates, EmitsMain, CompilesProgram, after_token};
-ghost use Rattle.declarations.specs.Scopes.{table_words};
+ghost use Rattle.declarations.specs.Clauses.{EmitsMain, CompilesProgram};
 
-use crate::arrays::arrays;
-use crate::globals::global_items;
-use crate::limits::end_then_expect;
-use crate::lists::item_keyword;
+use crate::Reading;
+use crate::bodies::statements_under;
 use crate::procedures::{accumulator, procedure};
-use crate::sectors::{end_of, next_sector, store_pool};
-use crate::{Allocation, AllocationAnswer, CheckedAnswer, KeywordFound, ProgramAnswer, SectorEnds};
-use emitter::{Context, Output, emit_generic, empty_pool};
+use emitter::{Context, Output, Pool, emit_generic};
 use instruction::slot::HLT;
 use layout::addresses::{FIRST_ARRAY, FIRST_CODE};
-use parser::failures::SHORT_SCRATCH;
-use parser::{Part, expect};
+use parser::{Cause, Failure, Part, Read, expect};
 use source::kind::{
     ACCUMULATOR, ARRAY, BEGIN, CHECKED, END_OF_SOURCE, INTEGER, NEXTSECTOR, PROCEDURE, SEMICOLON,
 };
 use source::{Token, token_at};
-use statements::statements;
+use crate::limits::end_then_expect;
+use crate::sectors::store_pool;
+use crate::{Allocation, ItemKeyword, SectorEnds};
 
-// The words of a table of 512 names.
+/// The words of a table of 512 names.
 pub const TABLE_WORDS: usize = 3584;
 
 // Whether a declaration begins with a token of a kind.
@@ -46,30 +44,23 @@ fn declaration(
     allocation: Allocation,
     checked: bool,
     t: Token,
-) -> AllocationAnswer
+) -> Read<Allocation>
     requires { Ready allocation table.old }
     ensures { Allocates allocation table.old image.old plan result table.new image.new
         (forms.declaration_in source.now checked (allocation_of allocation table.old) t) }
 {
-    let kind = t.kind;
-    let found = item_keyword(kind);
-    if let KeywordFound::Keyword { keyword } = found {
-        return global_items(source, table, image, allocation, keyword, t.next);
+    if let Some(keyword) = ItemKeyword::of_kind(t.kind) {
+        return allocation.global_items(source, table, image, keyword, t.next);
     }
-    if kind == ARRAY {
-        return arrays(source, table, image, allocation, checked, t.next);
+    match t.kind {
+        ARRAY => allocation.arrays(source, table, image, checked, t.next),
+        NEXTSECTOR => allocation.next_sector(source, image, t),
+        PROCEDURE => procedure(source, table, image, plan, allocation, false, t.next),
+        _ => accumulator(source, table, image, plan, allocation, t.next),
     }
-    if kind == NEXTSECTOR {
-        return next_sector(source, image, allocation, t);
-    }
-    if kind == PROCEDURE {
-        return procedure(source, table, image, plan, allocation, false, t.next);
-    }
-    accumulator(source, table, image, plan, allocation, t.next)
 }
 
-// Any declarations, from the start.
-#[tactic(auto, using(parser::proofs::ReadLaws::turn_zero, parser::proofs::ReadLaws::turn_none, parser::proofs::ReadLaws::turn_failed, parser::proofs::ReadLaws::turn_next, crate::proofs::AllocationLaws::for_declarations, crate::proofs::FormLaws::for_declarations))]
+// Any declarations, from the start. The loop is written out: a closure for its step would have to carry the loans of table and image.
 fn declarations(
     source: &[u8],
     table: &mut [u16],
@@ -78,35 +69,29 @@ fn declarations(
     allocation: Allocation,
     checked: bool,
     at: usize,
-) -> AllocationAnswer
+) -> Read<Allocation>
     requires { AtStart allocation × (table_words ≤ length table.old) }
     ensures { Allocates allocation table.old image.old plan result table.new image.new
         (parse_declarations source.now checked at) }
 {
     let mut current = allocation;
     let mut from = at;
-    let mut left = source.len();
-    loop {
+    for _ in 0..source.len() {
         let t = token_at(source, from);
-        let done = AllocationAnswer {
-            part: Part::Read { next: from },
-            allocation: current,
-        };
-        if left == 0 {
-            return done;
-        }
         if !begins(t.kind) {
-            return done;
+            break;
         }
         let one = declaration(source, table, image, plan, current, checked, t);
-        let part = one.part;
-        let Part::Read { next } = part else {
+        let Ok(Part { value: after, next }) = one else {
             return one;
         };
-        current = one.allocation;
+        current = after;
         from = next;
-        left -= 1;
     }
+    Ok(Part {
+        value: current,
+        next: from,
+    })
 }
 
 // The main body, and the last pool after it (W17, A8).
@@ -117,33 +102,29 @@ fn main_body(
     plan: SectorEnds,
     allocation: Allocation,
     at: usize,
-) -> expressions::OutputAnswer
+) -> Read<Output>
     requires { Ready allocation table.now }
     ensures { EmitsMain allocation table.now image.old plan result image.new
         (main_in source.now (allocation_of allocation table.now) at) }
 {
     let output = allocation.output;
     let sectors = allocation.sectors;
-    let closed = sectors.count;
     let context = Context {
-        names: allocation.names,
-        pool: end_of(plan, sectors),
+        pool: plan.end_of(sectors),
         locals: output.next,
     };
-    let inside = statements(source, table, image, context, at, output);
-    let part = inside.part;
-    let after = inside.output;
-    let Part::Read { next } = part else {
+    let inside = statements_under(source, table, image, allocation.names, context, output, at);
+    let Ok(Part { value: after, next }) = inside else {
         return inside;
     };
     let last = emit_generic(image, after, HLT);
-    let part = end_then_expect(source, last, closed, allocation.array, END_OF_SOURCE, next);
-    let Part::Read { next: _ } = part else {
-        return expressions::OutputAnswer { part, output: last };
+    let array = allocation.array;
+    let ended = end_then_expect(source, last, sectors.count, array, END_OF_SOURCE, next);
+    let Ok(Part { value: _, next }) = ended else {
+        return Err(ended.unwrap_err());
     };
-    let pool = last.pool;
-    store_pool(image, last.next, pool);
-    expressions::OutputAnswer { part, output: last }
+    store_pool(image, last.next, last.pool);
+    Ok(Part { value: last, next })
 }
 
 fn start_allocation() -> Allocation
@@ -151,7 +132,7 @@ fn start_allocation() -> Allocation
 {
     let output = Output {
         next: FIRST_CODE,
-        pool: empty_pool(),
+        pool: Pool::empty(),
     };
     let sectors = SectorEnds {
         ends: [0u16; 32],
@@ -167,99 +148,90 @@ fn start_allocation() -> Allocation
 }
 
 // `.CHECKED` and its `;`, or nothing (D17).
-fn checked_at(source: &[u8], at: usize) -> CheckedAnswer
-    ensures { Gives result.part result.checked (parse_checked source.now at) }
+#[tactic(auto, unfolding(grammar::specs::Declarations::parse_checked, grammar::specs::Parse::and_then))]
+fn checked_at(source: &[u8], at: usize) -> Read<bool>
+    ensures { Gives (λ b. b) result (parse_checked source.now at) }
 {
     let t = token_at(source, at);
     if t.kind != CHECKED {
-        return CheckedAnswer {
-            part: Part::Read { next: at },
-            checked: false,
-        };
+        return Ok(Part {
+            value: false,
+            next: at,
+        });
     }
-    CheckedAnswer {
-        part: expect(source, SEMICOLON, t.next),
-        checked: true,
-    }
+    let end = expect(source, SEMICOLON, t.next);
+    let Ok(Part { value: _, next }) = end else {
+        return Err(end.unwrap_err());
+    };
+    Ok(Part { value: true, next })
 }
 
 // `.BEGIN`, and whether subscripts are tested.
-fn opening(source: &[u8]) -> CheckedAnswer
-    ensures { Gives result.part result.checked
-        (after_token source.now kinds.BEGIN (parse_checked source.now) 0) }
+#[tactic(auto, unfolding(grammar::specs::Parse::and_then))]
+fn opening(source: &[u8]) -> Read<bool>
+    ensures { Gives (λ b. b) result (after_token source.now kinds.BEGIN (parse_checked source.now) 0) }
 {
-    let part = expect(source, BEGIN, 0);
-    let Part::Read { next } = part else {
-        return CheckedAnswer {
-            part,
-            checked: false,
-        };
+    let begin = expect(source, BEGIN, 0);
+    let Ok(Part { value: _, next }) = begin else {
+        return Err(begin.unwrap_err());
     };
     checked_at(source, next)
 }
 
 // The opening, declarations, the main body.
-fn whole(source: &[u8], table: &mut [u16], image: &mut [u16], plan: SectorEnds) -> ProgramAnswer
+fn whole(source: &[u8], table: &mut [u16], image: &mut [u16], plan: SectorEnds) -> Read<Reading>
     requires { table_words ≤ length table.old }
     ensures { CompilesProgram plan image.old result table.new image.new (program_in source.now) }
 {
-    let allocation = start_allocation();
-    let end = allocation.output;
+    let start = start_allocation();
     let opened = opening(source);
-    let part = opened.part;
-    let checked = opened.checked;
-    let Part::Read { next } = part else {
-        return ProgramAnswer {
-            part,
+    let Ok(
+        Part {
+            value: checked,
+            next,
+        },
+    ) = opened
+    else {
+        return Err(opened.unwrap_err());
+    };
+    let all = declarations(source, table, image, plan, start, checked, next);
+    let Ok(
+        Part {
+            value: allocation,
+            next,
+        },
+    ) = all
+    else {
+        return Err(all.unwrap_err());
+    };
+    let main = main_body(source, table, image, plan, allocation, next);
+    let Ok(Part { value: end, next }) = main else {
+        return Err(main.unwrap_err());
+    };
+    Ok(Part {
+        value: Reading {
             checked,
             allocation,
             end,
-        };
-    };
-    let all = declarations(source, table, image, plan, allocation, checked, next);
-    let part = all.part;
-    let after = all.allocation;
-    let Part::Read { next } = part else {
-        return ProgramAnswer {
-            part,
-            checked,
-            allocation: after,
-            end,
-        };
-    };
-    let main = main_body(source, table, image, plan, after, next);
-    let part = main.part;
-    let end = main.output;
-    ProgramAnswer {
-        part,
-        checked,
-        allocation: after,
-        end,
-    }
+        },
+        next,
+    })
 }
 
-// A program whose length was tested. The pools' addresses are the plan's. A table without room for 512 names is refused, as short scratch is (F2).
+/// A program whose length was tested. The pools' addresses are the plan's. A table without room for 512 names is refused, as short scratch is (F2).
 pub fn program(
     source: &[u8],
     table: &mut [u16],
     image: &mut [u16],
     plan: SectorEnds,
-) -> ProgramAnswer
+) -> Read<Reading>
     ensures { Programs plan source.now table.old image.old result table.new image.new }
 {
     if table.len() < TABLE_WORDS {
-        let part = Part::Failed {
-            number: SHORT_SCRATCH,
+        return Err(Failure {
+            cause: Cause::ShortScratch,
             at: 0,
-        };
-        let allocation = start_allocation();
-        let end = allocation.output;
-        return ProgramAnswer {
-            part,
-            checked: false,
-            allocation,
-            end,
-        };
+        });
     }
     whole(source, table, image, plan)
 }

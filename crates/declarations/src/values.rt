@@ -1,16 +1,16 @@
 // An array's initial values.
 ghost use Rattle.std.specs.Prelude.{◌≡◌, ◌+◌, ◌≤◌, replicate};
 ghost use Rattle.grammar.specs.Declarations.{parse_initials};
-ghost use Rattle.symbols.specs.Table.{live_names};
+ghost use Rattle.cells.specs.Answers.{live};
 ghost use Rattle.layout.specs.Emission.{stored, padded};
-ghost use Rattle.declarations.specs.Declares.{Declares, Gives};
-ghost use Rattle.declarations.specs.Values.{initial_value, Filled};
+ghost use Rattle.parser.specs.Reads.{Gives};
+ghost use Rattle.declarations.specs.Declares.{Declares};
+ghost use Rattle.declarations.specs.Values.{initial_value, StoresValue, Filled};
 ghost use Rattle.declarations.specs.Clauses.{value_list_at};
 
-use crate::ValuesAnswer;
-use cells::{ConstantAnswer, constant_at};
+use cells::Reader;
 use emitter::store;
-use parser::{Part, expect, fail_at, failures};
+use parser::{Cause, Part, Read, expect, fail_at};
 use source::kind::{COMMA, LEFT_PARENTHESIS, RIGHT_PARENTHESIS};
 use source::token_at;
 
@@ -20,103 +20,101 @@ fn fill(image: &mut [u16], at: usize, count: usize)
     requires { at + count ≤ 65536 }
     ensures { image.new ≡ stored image.old at (replicate count 0) }
 {
-    let mut i = 0;
-    while i < count {
+    for i in 0..count {
         store(image, at + i, 0);
-        i += 1;
     }
 }
 
 // An initial value after so many of them (F14).
-fn initial_value(
-    source: &[u8],
-    table: &[u16],
-    names: usize,
+#[tactic(auto, unfolding(crate::specs::Values::initial_value, grammar::specs::Parse::and_then, grammar::specs::Parse::fail_at))]
+fn initial_value(reader: &Reader<'_>, size: u16, count: u16, at: usize) -> Read<u16>
+    ensures { Gives (λ v. v) result (initial_value reader.now.source.now (live reader.now) size count at) }
+{
+    let read = reader.constant_at(at);
+    let Ok(Part { value: _, next: _ }) = read else {
+        return read;
+    };
+    if size <= count {
+        return Err(fail_at(token_at(reader.source, at), Cause::TooManyValues));
+    }
+    read
+}
+
+// The same, stored behind those; and how many there are then.
+fn stored_value(
+    reader: &Reader<'_>,
+    image: &mut [u16],
+    first: usize,
     size: u16,
     count: u16,
     at: usize,
-) -> ConstantAnswer
-    ensures { Gives result.part result.value
-        (initial_value source.now (live_names names table.now) size count at) }
+) -> Read<u16>
+    requires { first + size ≤ 65536 }
+    ensures { Declares (StoresValue first size count image.old image.new) result
+        (initial_value reader.now.source.now (live reader.now) size count at) }
 {
-    let one = constant_at(source, table, names, at);
-    let part = one.part;
-    let Part::Read { next: _ } = part else {
-        return one;
+    let read = initial_value(reader, size, count, at);
+    let Ok(Part { value, next }) = read else {
+        return read;
     };
-    if size <= count {
-        let t = token_at(source, at);
-        return ConstantAnswer {
-            part: fail_at(t, failures::TOO_MANY_VALUES),
-            value: 0,
-        };
-    }
-    one
+    store(image, first + count as usize, value);
+    Ok(Part {
+        value: count + 1,
+        next,
+    })
 }
 
-// Initial values separated by commas, stored from an address on.
-#[tactic(auto, using(crate::proofs::ParseLaws::for_values, parser::proofs::ReadLaws::list_first, parser::proofs::ReadLaws::list_failed, parser::proofs::ReadLaws::list_zero, parser::proofs::ReadLaws::list_last, parser::proofs::ReadLaws::list_next, parser::proofs::ReadLaws::failed_as, crate::proofs::ArrayLaws::for_values))]
-fn values(
-    source: &[u8],
-    table: &[u16],
-    image: &mut [u16],
-    names: usize,
-    first: usize,
-    size: u16,
-    at: usize,
-) -> ValuesAnswer
+// Initial values separated by commas, stored from an address on; and how many there are.
+fn values(reader: &Reader<'_>, image: &mut [u16], first: usize, size: u16, at: usize) -> Read<u16>
     requires { first + size ≤ 65536 }
-    ensures { Declares (Filled first size image.old result.count image.new) result.part
-        (value_list_at source.now (live_names names table.now) size at) }
+    ensures { Declares (λ values count. Filled first size image.old count image.new values) result
+        (value_list_at reader.now.source.now (live reader.now) size at) }
 {
-    let mut count: u16 = 0;
+    let mut count = 0;
     let mut from = at;
-    let mut left = source.len();
-    loop {
-        let one = initial_value(source, table, names, size, count, from);
-        let part = one.part;
-        let Part::Read { next } = part else {
-            return ValuesAnswer { part, count };
+    for _ in 0..reader.source.len() {
+        let one = stored_value(reader, image, first, size, count, from);
+        let Ok(Part { value: after, next }) = one else {
+            return one;
         };
-        store(image, first + count as usize, one.value);
-        count += 1;
-        let t = token_at(source, next);
-        if left == 0 {
-            return ValuesAnswer { part, count };
-        }
+        let t = token_at(reader.source, next);
         if t.kind != COMMA {
-            return ValuesAnswer { part, count };
+            return one;
         }
+        count = after;
         from = t.next;
-        left -= 1;
     }
+    stored_value(reader, image, first, size, count, from)
 }
 
 // The words of an array, with the initial values if they are given.
-pub fn initials(
-    source: &[u8],
-    table: &[u16],
+pub(crate) fn initials(
+    reader: &Reader<'_>,
     image: &mut [u16],
-    names: usize,
     first: usize,
     size: u16,
     at: usize,
-) -> Part
+) -> Read<()>
     requires { first + size ≤ 65536 }
-    ensures { Declares (λ vs. image.new ≡ stored image.old first (padded size vs)) result
-        (parse_initials source.now (live_names names table.now) size at) }
+    ensures { Declares (λ values _. image.new ≡ stored image.old first (padded size values)) result
+        (parse_initials reader.now.source.now (live reader.now) size at) }
 {
-    let t = token_at(source, at);
+    let t = token_at(reader.source, at);
     if t.kind != LEFT_PARENTHESIS {
         fill(image, first, size as usize);
-        return Part::Read { next: at };
+        return Ok(Part {
+            value: (),
+            next: at,
+        });
     }
-    let list = values(source, table, image, names, first, size, t.next);
-    let part = list.part;
-    let Part::Read { next } = part else {
-        return part;
+    let list = values(reader, image, first, size, t.next);
+    let Ok(Part { value: count, next }) = list else {
+        return Err(list.unwrap_err());
     };
-    let count = list.count;
     fill(image, first + count as usize, (size - count) as usize);
-    expect(source, RIGHT_PARENTHESIS, next)
+    let end = expect(reader.source, RIGHT_PARENTHESIS, next);
+    let Ok(Part { value: _, next }) = end else {
+        return Err(end.unwrap_err());
+    };
+    Ok(Part { value: (), next })
 }

@@ -17,10 +17,17 @@ use Rattle.digits.specs.Digits.{decimal_by, decimal, left_in, right_in, digits_f
 pub next_space : (n : ℕ) → 0 < n → ◌≡◌ {A = List ℕ} (replicate n 32) ((32 ∷ []) ++ replicate (n - 1) 32)
 next_space n h = let e : n ≡ suc (n - 1) = omega (arith, h) in ap (λ k. replicate {A = ℕ} k 32) e
 
-pub no_space : (n : ℕ) → n ≤ 0 → ◌≡◌ {A = List ℕ} (replicate n 32) []
-no_space n h = let e : n ≡ 0 = omega (arith, h) in ap (λ k. replicate {A = ℕ} k 32) e
-
 -- ---- How many digits
+
+-- at most so many
+pub decimal_length : (k n : ℕ) → length (decimal_by k n) ≤ k
+unfolding decimal_by
+decimal_length zero n = omega arith
+decimal_length (suc k) n = go (ltb n 10) (decimal_length k (n / 10))
+  where
+    go : (b : Bool) → length (decimal_by k (n / 10)) ≤ k → length (whether b (λ _. []) (λ _. decimal_by k (n / 10)) ++ ((48 + n % 10) ∷ [])) ≤ suc k
+    go true h = omega arith
+    go false h = simp length-append (omega (arith, h))
 
 pub one_digit : (k n : ℕ) → 0 < k → n < 10 → length (decimal_by k n) ≡ 1
 unfolding decimal_by
@@ -45,6 +52,26 @@ shorter (suc (suc k)) n h l =
       below = rw j (omega (arith, l, e));
       one = rw (le-ltb n 10 h, j) (length-append (decimal_by (suc k) (n / 10)) _);
     }
+
+pub next_digit : (k n : ℕ) → 10 ≤ n → decimal_by (suc k) n ≡ decimal_by k (n / 10) ++ ((48 + n % 10) ∷ [])
+unfolding decimal_by
+next_digit k n h = rw (le-ltb n 10 h)
+
+-- more fuel than a number has digits adds none
+pub no_more_digits : (k n : ℕ) → 0 < k → n < 10 ^ k → decimal_by (suc k) n ≡ decimal_by k n
+unfolding decimal_by
+no_more_digits zero n h l = absurd (omega (arith, h))
+no_more_digits (suc k) n h l = go (ltb n 10) refl (λ p q. no_more_digits k (n / 10) p q)
+  where
+    go : (b : Bool) → ltb n 10 ≡ b → (0 < k → n / 10 < 10 ^ k → decimal_by (suc k) (n / 10) ≡ decimal_by k (n / 10))
+        → whether b (λ _. []) (λ _. decimal_by (suc k) (n / 10)) ++ ((48 + n % 10) ∷ []) ≡ whether b (λ _. []) (λ _. decimal_by k (n / 10)) ++ ((48 + n % 10) ∷ [])
+    go true q rest = refl
+    go false q rest =
+        let s = shorter (suc k) n (ltb-false n 10 q) l in
+        let a = s.left in
+        let b = s.below in
+        let j : suc k - 1 ≡ k = omega arith in
+        ap (λ ds. ds ++ ((48 + n % 10) ∷ [])) (rest (rw j at a) (rw j at b))
 
 -- a number below a power of ten has at most so many digits
 pub few_digits : (k w n : ℕ) → 0 < w → n < 10 ^ w → length (decimal_by k n) ≤ w

@@ -1,4 +1,3 @@
--- Numbers as text, and what is promised of a text that is written.
+-- Numbers as text.
 pub mod Digits
-pub mod Wrote
 pub mod Examples

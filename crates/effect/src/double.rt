@@ -20,7 +20,7 @@ fn signed(minus: bool, m: u32) -> u32
 fn is_outside(n: u32) -> bool
     ensures { result ≡ outside n }
 {
-    n < ZERO - 32768 || ZERO + 32768 <= n
+    !(ZERO - 32768..ZERO + 32768).contains(&n)
 }
 
 fn magnitude(w: u16) -> u32
@@ -54,18 +54,14 @@ pub fn multiply(v: u16, r: Registers) -> Registers
     let p = product(r.a, v);
     let a = (p / 32768 % 65536) as u16;
     let b = (p % 32768) as u16;
-    Registers { a, b, c: r.c }
+    Registers { a, b, ..r }
 }
 
 // Where a division cannot be done.
 fn undivided(r: Registers) -> Registers
     ensures { result ≡ undivided r }
 {
-    Registers {
-        a: r.a,
-        b: r.b,
-        c: true,
-    }
+    Registers { c: true, ..r }
 }
 
 // DIV by v, which is not 0.
@@ -118,6 +114,6 @@ pub fn long_right(r: Registers) -> Registers
     Registers {
         a: if SIGN <= r.a { 65535 } else { 0 },
         b: r.a % 32768,
-        c: r.c,
+        ..r
     }
 }

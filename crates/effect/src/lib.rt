@@ -13,7 +13,7 @@ use word::{Flagged, SIGN};
 
 mod double;
 
-#[derive(Clone, Copy)]
+#[derive(Debug, Clone, Copy, PartialEq, Eq, Default)]
 pub struct Registers {
     pub a: u16,
     pub b: u16,
@@ -21,7 +21,7 @@ pub struct Registers {
 }
 
 // The sense switches.
-#[derive(Clone, Copy)]
+#[derive(Debug, Clone, Copy, PartialEq, Eq, Default)]
 pub struct Switches {
     pub one: bool,
     pub two: bool,
@@ -29,30 +29,40 @@ pub struct Switches {
     pub four: bool,
 }
 
-fn with_a(r: Registers, a: u16) -> Registers
-    ensures { result ≡ with_a r a }
-{
-    Registers { a, b: r.b, c: r.c }
-}
+impl Registers {
+    fn with_a(self, a: u16) -> Registers
+        ensures { result ≡ with_a self a }
+    {
+        Registers { a, ..self }
+    }
 
-fn with_flagged(r: Registers, f: Flagged) -> Registers
-    ensures { result ≡ with_flagged r f }
-{
-    Registers {
-        a: f.word,
-        b: r.b,
-        c: f.flag,
+    fn with_flagged(self, f: Flagged) -> Registers
+        ensures { result ≡ with_flagged self f }
+    {
+        Registers {
+            a: f.word,
+            c: f.flag,
+            ..self
+        }
+    }
+
+    // A and B exchanged.
+    fn swapped(self) -> Registers
+        ensures { result ≡ swapped self }
+    {
+        Registers {
+            a: self.b,
+            b: self.a,
+            ..self
+        }
     }
 }
 
-// A and B exchanged.
-fn swap(r: Registers) -> Registers
-    ensures { result ≡ swapped r }
-{
-    Registers {
-        a: r.b,
-        b: r.a,
-        c: r.c,
+impl Switches {
+    fn any(self) -> bool
+        ensures { result ≡ any_switch self }
+    {
+        self.one || self.two || self.three || self.four
     }
 }
 
@@ -63,11 +73,11 @@ pub fn operate(opcode: u16, v: u16, r: Registers) -> Registers
 {
     let a = r.a;
     match opcode {
-        opcode::LDA => with_a(r, v),
-        opcode::ANA => with_a(r, a & v),
-        opcode::ERA => with_a(r, a ^ v),
-        opcode::ADD => with_flagged(r, word::sum(a, v)),
-        opcode::SUB => with_flagged(r, word::difference(a, v)),
+        opcode::LDA => r.with_a(v),
+        opcode::ANA => r.with_a(a & v),
+        opcode::ERA => r.with_a(a ^ v),
+        opcode::ADD => r.with_flagged(word::sum(a, v)),
+        opcode::SUB => r.with_flagged(word::difference(a, v)),
         opcode::MPY => double::multiply(v, r),
         opcode::DIV => double::divide(v, r),
         _ => r,
@@ -81,25 +91,24 @@ pub fn unary(slot: usize, r: Registers) -> Registers
 {
     let a = r.a;
     match slot {
-        slot::CRA => with_a(r, 0),
-        slot::CMA => with_a(r, 65535 - a),
-        slot::TCA => with_a(r, ((65536 - a as u32) % 65536) as u16),
-        slot::CHS => with_a(r, ((a as u32 + SIGN as u32) % 65536) as u16),
-        slot::SSP => with_a(r, a % SIGN),
-        slot::SSM => with_a(r, a % SIGN + SIGN),
-        slot::CSA => Registers {
-            a: a % SIGN,
-            b: r.b,
-            c: SIGN <= a,
-        },
-        slot::CAR => with_a(r, word::bytes::car(a)),
-        slot::CAL => with_a(r, word::bytes::cal(a)),
-        slot::ICL => with_a(r, word::bytes::icl(a)),
-        slot::AOA => with_flagged(r, word::sum(a, 1)),
-        slot::ACA => with_flagged(r, word::sum(a, word::bit(r.c))),
-        slot::ICR => with_a(r, word::bytes::icr(a)),
-        slot::ICA => with_a(r, word::bytes::ica(a)),
-        slot::IAB => swap(r),
+        slot::CRA => r.with_a(0),
+        slot::CMA => r.with_a(65535 - a),
+        slot::TCA => r.with_a(a.wrapping_neg()),
+        slot::CHS => r.with_a(a.wrapping_add(SIGN)),
+        slot::SSP => r.with_a(a % SIGN),
+        slot::SSM => r.with_a(a % SIGN + SIGN),
+        slot::CSA => r.with_flagged(Flagged {
+            word: a % SIGN,
+            flag: SIGN <= a,
+        }),
+        slot::CAR => r.with_a(word::bytes::car(a)),
+        slot::CAL => r.with_a(word::bytes::cal(a)),
+        slot::ICL => r.with_a(word::bytes::icl(a)),
+        slot::AOA => r.with_flagged(word::sum(a, 1)),
+        slot::ACA => r.with_flagged(word::sum(a, word::bit(r.c))),
+        slot::ICR => r.with_a(word::bytes::icr(a)),
+        slot::ICA => r.with_a(word::bytes::ica(a)),
+        slot::IAB => r.swapped(),
         _ => r,
     }
 }
@@ -114,13 +123,7 @@ pub fn shifted(kind: u16, amount: u16, r: Registers) -> Registers
     if kind == LRS && amount == 15 {
         return double::long_right(r);
     }
-    with_flagged(r, word::shift::shift(kind, amount, r.a, r.c))
-}
-
-fn any_switch(s: Switches) -> bool
-    ensures { result ≡ any_switch s }
-{
-    s.one || s.two || s.three || s.four
+    r.with_flagged(word::shift::shift(kind, amount, r.a, r.c))
 }
 
 // Whether an instruction that may skip does; any other slot does not.
@@ -138,8 +141,8 @@ pub fn skips(slot: usize, r: Registers, s: Switches) -> bool
         slot::SS2 => s.two,
         slot::SS3 => s.three,
         slot::SS4 => s.four,
-        slot::SSS => any_switch(s),
-        slot::SSR => !any_switch(s),
+        slot::SSS => s.any(),
+        slot::SSR => !s.any(),
         slot::SZE => a == 0,
         slot::SNZ => 0 < a,
         slot::SPL => a < SIGN,

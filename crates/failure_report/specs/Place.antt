@@ -1,7 +1,7 @@
 -- Lines and columns of a source; a newline, and nothing else, ends a line.
 use Rattle.std.specs.Prelude.{ℕ, zero, suc, ◌+◌, ◌-◌, Bool, not, List, eqb, get_or, take, drop}
 use Rattle.prelude.specs.Choice.{whether, between}
-use Rattle.digits.specs.Wrote.{up_of}
+use Rattle.text.specs.Wrote.{up_of}
 use Rattle.source.specs.Bytes.{span}
 
 abbrev pub is_newline : ℕ → Bool

@@ -2,7 +2,7 @@
 // The litres, and the total of the first page, are taken from the machine's memory; the collection page adds up its own totals.
 #![tactic(auto)]
 
-use compiler::{Answer, SCRATCH_WORDS};
+use compiler::SCRATCH_WORDS;
 use digits::{put_decimal, put_text};
 use effect::Switches;
 use failure_report::put_words;
@@ -39,12 +39,8 @@ fn compile_and_run(image: &mut [u16; 16384]) -> bool {
         &mut scratch,
     );
     match answer {
-        Answer::Accepted {
-            entry,
-            words: _,
-            globals: _,
-        } => run(&mut *image, entry),
-        Answer::Failed { number: _, at: _ } => false,
+        Ok(program) => run(&mut *image, program.entry),
+        Err(_) => false,
     }
 }
 

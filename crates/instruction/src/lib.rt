@@ -1,7 +1,7 @@
 // The instructions of the DDP-516: the table of the generic ones, the decoder and the encoder.
 #![tactic(auto)]
 
-ghost use Rattle.std.specs.Prelude.{◌≡◌, ◌<◌, ◌&&◌, leb};
+ghost use Rattle.std.specs.Prelude.{◌≡◌, ◌<◌};
 ghost use Rattle.instruction.specs.Field.{opcode_of};
 ghost use Rattle.instruction.specs.Table.{short_kinds, table_of};
 ghost use Rattle.instruction.specs.Decode.{is_in, is_shift, generic_in, shift_of, memory_of, decode_in};
@@ -52,7 +52,7 @@ const TABLE: [u16; slot::COUNT] = [
     0, 0, 0,
 ];
 
-#[derive(Drop)]
+#[derive(Debug, Clone, Copy, PartialEq, Eq)]
 pub enum Instruction {
     // The address is the nine bits. The tag says that X is added, so it is clear for LDX.
     Memory {
@@ -91,26 +91,17 @@ fn generic(table: &[u16; slot::COUNT], w: u16) -> Instruction
     }
 }
 
-fn within(low: u16, high: u16, n: u16) -> bool
-    ensures { result ≡ (leb low n && leb n high) }
-{
-    low <= n && n <= high
-}
-
 fn is_short(kind: u16) -> bool
     ensures { result ≡ is_in kind short_kinds }
 {
-    within(LGR, ARR, kind) || within(LGL, ALR, kind)
+    (LGR..=ARR).contains(&kind) || (LGL..=ALR).contains(&kind)
 }
 
 // Whether there is a shift of a kind with such a field, which holds 64 less the amount: of A by up to 15, of A and B by 15.
 fn is_shift(kind: u16, field: u16) -> bool
     ensures { result ≡ is_shift kind field }
 {
-    if 49 <= field && is_short(kind) {
-        return true;
-    }
-    field == 49 && (kind == LRS || kind == LLS)
+    (49 <= field && is_short(kind)) || (field == 49 && matches!(kind, LRS | LLS))
 }
 
 #[tactic(auto, unfolding(crate::specs::Decode::shift_of))]

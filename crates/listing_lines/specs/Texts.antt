@@ -3,12 +3,15 @@ use Rattle.std.specs.Prelude.{ℕ, ◌≤◌, ◌≡◌, List, ◌++◌, length}
 use Rattle.std.proofs.lemmas.List.Edits.{sets}
 use Rattle.digits.specs.Digits.{octal, decimal}
 use Rattle.prelude.specs.Text.{bytes}
+use Rattle.text.specs.Wrote.{largest}
+use Rattle.text.specs.Adds.{Adds}
+use Rattle.text.specs.declared.Text.{Text}
 use Rattle.tree.specs.Tree.{Program}
 use Rattle.compilation.specs.Compile.{Result}
 use Rattle.compilation.specs.Listing.{line, listing_def}
-use Rattle.compiler.specs.Compile.{result_on, answer_of, image_after}
-use Rattle.compiler.specs.declared.Answer.{Answer}
-use Rattle.compiler.specs.declared.Answer.TheVariants.{Accepted, Failed}
+use Rattle.std.specs.Prelude.{Ok, Err}
+use Rattle.parser.specs.Failures.{number_of}
+use Rattle.compiler.specs.Compile.{result_on, answer_of, image_after, Answer}
 
 -- the listing's parts, as in `listing_def`: a word's line (P2),
 unfoldable pub word_line : List ℕ → ℕ → ℕ → List ℕ
@@ -24,9 +27,15 @@ count_lines entry words globals = line (bytes "entry=") (octal entry) ++ (line (
 
 -- what an answer of `compile` and its image say of a result: all but the program, which no line depends on
 abbrev pub result_for : Program → Answer → List ℕ → Result
-result_for program (Accepted entry words globals) image =
-    Result.accepted (record { program = program; image = image; entry = entry; words = words; globals = globals })
-result_for program (Failed number at) image = Result.failed number at
+result_for program (Ok c) image =
+    Result.accepted (record { program = program; image = image; entry = c.entry; words = c.words; globals = c.globals })
+result_for program (Err e) image = Result.failed (number_of e.cause) e.at
+
+-- the listing is added, and is shorter than the largest offset
+abbrev pub AddsListing : Answer → List ℕ → Text → Text → Type 0
+AddsListing answer image before after =
+    (program : Program)
+    → Adds before after (listing_def (result_for program answer image)) × (length (listing_def (result_for program answer image)) ≤ largest)
 
 -- the listing stands at the buffer's start, as far as it goes, and its length is answered
 abbrev pub Listed : Answer → List ℕ → List ℕ → List ℕ → ℕ → Type 0

@@ -1,18 +1,19 @@
 -- Chains of indirect words, one word at a time, and where they lead.
-use Rattle.std.proofs.Common.{◌≡◌, ℕ, zero, suc, ◌-◌, ◌%◌, ◌<◌, ◌≤◌, Bool, true, false, List, get_or, refl, ap, not-suc-le-zero, arith}
+use Rattle.std.proofs.Common.{◌≡◌, ℕ, zero, suc, ◌-◌, ◌%◌, ◌<◌, ◌≤◌, Bool, true, false, List, Result, Ok, Err, get_or, refl, ap, not-suc-le-zero, arith}
 use Rattle.instruction.specs.Field.{indirect_of, tag_of}
 use Rattle.instruction.proofs.Choice.{cond_all}
-use Rattle.machine.specs.declared.address.Address.{Address}
-use Rattle.machine.specs.declared.address.Address.TheVariants.{At, Long}
-use Rattle.machine.specs.Address.{base_of, indexed_of, follow_of, address_of}
+use Rattle.machine.specs.declared.address.Reached.{Reached}
+use Rattle.machine.specs.declared.failure.Failure.{Failure}
+use Rattle.machine.specs.declared.failure.Failure.TheVariants.{LongChain}
+use Rattle.machine.specs.Address.{reached, base_of, indexed_of, follow_of, address_of}
 
 -- a chain that ends, one that is too long, and one that goes on
-pub follow_end : (image : List ℕ) (n at : ℕ) → n ≤ 16 → follow_of image n false at ≡ At at (16 - n)
+pub follow_end : (image : List ℕ) (n at : ℕ) → n ≤ 16 → follow_of image n false at ≡ reached at (16 - n)
 unfolding follow_of
 follow_end image zero at h = refl
 follow_end image (suc n) at h = refl
 
-pub follow_long : (image : List ℕ) (at : ℕ) → follow_of image 0 true at ≡ Long
+pub follow_long : (image : List ℕ) (at : ℕ) → follow_of image 0 true at ≡ Err LongChain
 unfolding follow_of
 follow_long image at = refl
 
@@ -29,9 +30,9 @@ follow_more image (suc n) at h =
     ap (λ (k : ℕ). follow_of image k (indirect_of (get_or image at 0)) (onwards image (get_or image at 0))) e
 
 -- an address that is reached is one of the image's
-abbrev pub Below : Address → Type 0
-Below (At e passed) = e < 16384
-Below Long = Unit {0}
+abbrev pub Below : Result Reached Failure → Type 0
+Below (Ok r) = r.address < 16384
+Below (Err f) = Unit {0}
 
 indexed_below : (at x : ℕ) (tag : Bool) → at < 16384 → indexed_of at tag x < 16384
 indexed_below at x tag h = cond_all (λ (k : ℕ). k < 16384) tag (omega arith) h

@@ -1,5 +1,5 @@
 -- The states that a step takes and gives: an image of 16,384 words and P in it. And what a step's answer says of the step.
-use Rattle.std.proofs.Common.{◌≡◌, ℕ, ◌<◌, eqb, List, length, get_or, ap, ◌∙◌, arith, length-set}
+use Rattle.std.proofs.Common.{◌≡◌, ℕ, ◌<◌, eqb, List, Result, Ok, Err, length, get_or, ap, ◌∙◌, arith, length-set}
 use Rattle.instruction.specs.Opcode.{JMP, STA, JST, CAS, IRS, LDX}
 use Rattle.instruction.specs.Slot.{HLT}
 use Rattle.instruction.specs.Decode.{decode_def}
@@ -8,9 +8,8 @@ use Rattle.instruction.specs.declared.Instruction.TheVariants.{Memory, Shift, Ge
 use Rattle.instruction.proofs.Choice.{cond_all}
 use Rattle.instruction.proofs.Proper.{Proper, decode_proper}
 use Rattle.machine.specs.declared.Machine.{Machine}
-use Rattle.machine.specs.declared.address.Address.{Address}
-use Rattle.machine.specs.declared.address.Address.TheVariants.{At, Long}
-use Rattle.machine.specs.declared.step.Stepped.TheVariants.{Made, Failed}
+use Rattle.machine.specs.declared.address.Reached.{Reached}
+use Rattle.machine.specs.declared.failure.Failure.{Failure}
 use Rattle.machine.specs.State.{State, state, Good}
 use Rattle.machine.specs.Address.{address_of}
 use Rattle.machine.specs.Step.{past_of, memory_def, generic_def, Step, made, failed, memory_step, perform, step_def, stepped_of, image_left}
@@ -38,9 +37,9 @@ generic_below : (slot : ℕ) (m : Machine) → (generic_def slot m).p < 16384
 unfolding generic_def
 generic_below slot m = cond_all (λ (n : Machine). n.p < 16384) (eqb slot HLT) (past_below m.p 0) (past_below m.p _)
 
-at_good : (opcode : ℕ) (m : Machine) (image : List ℕ) (a : Address) → Below a → length image ≡ 16384 → GoodStep (memory_step opcode m image a)
-at_good opcode m image (At e passed) h l = memory_good opcode e m image h l
-at_good opcode m image Long h l = tt
+at_good : (opcode : ℕ) (m : Machine) (image : List ℕ) (a : Result Reached Failure) → Below a → length image ≡ 16384 → GoodStep (memory_step opcode m image a)
+at_good opcode m image (Ok r) h l = memory_good opcode r.address m image h l
+at_good opcode m image (Err f) h l = tt
 
 perform_good : (m : Machine) (image : List ℕ) (i : Instruction) → Proper i → Good (state m image) → GoodStep (perform m image i)
 perform_good m image (Memory opcode indirect tag sector address) h g =
@@ -61,11 +60,11 @@ unfolding step_def
 step_of m image e = ap (perform m image) e
 
 -- what the step's answer and the image that it left say of the step
-pub step_made : (image l : List ℕ) (x : Step) {n : Machine} → stepped_of x ≡ Made n → l ≡ image_left image x → x ≡ made (state n l)
+pub step_made : (image l : List ℕ) (x : Step) {n : Machine} → stepped_of x ≡ Ok n → l ≡ image_left image x → x ≡ made (state n l)
 step_made image l (made t) {n} e d = let q : t.machine ≡ n = cc in rw (← q, d)
 step_made image l (failed f) {n} e d = cc
 
-pub step_failed : (image l : List ℕ) (x : Step) {f : ℕ} → stepped_of x ≡ Failed f → l ≡ image_left image x → (x ≡ failed f) × (l ≡ image)
+pub step_failed : (image l : List ℕ) (x : Step) {f : Failure} → stepped_of x ≡ Err f → l ≡ image_left image x → (x ≡ failed f) × (l ≡ image)
 step_failed image l (made t) {f} e d = (cc, cc)
 step_failed image l (failed g) {f} e d = (cc, cc)
 

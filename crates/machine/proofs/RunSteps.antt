@@ -2,6 +2,7 @@
 use Rattle.std.proofs.Common.{◌≡◌, ℕ, zero, suc, ◌+◌, ◌-◌, ◌<◌, true, false, sym, ap, ◌∙◌, not-suc-le-zero, add-zero, add_assoc, zero-add, arith}
 use native.Mathlib.Nat.{sub-zero}
 use Rattle.instruction.proofs.Choice.{yes, no}
+use Rattle.machine.specs.declared.failure.Failure.{Failure}
 use Rattle.machine.specs.declared.Outcome.{Outcome}
 use Rattle.machine.specs.declared.Outcome.TheVariants.{Halted, Spent, Failed}
 use Rattle.machine.specs.State.{State}
@@ -38,7 +39,7 @@ run_by (suc n) s {x} h p e =
     ∙ ap (go_on s (λ (u : State). run_from n u)) e
     ∙ ap (λ (k : ℕ). go_on s (λ (u : State). run_from k u) x) q
 
-pub run_failed : (n : ℕ) (s : State) {f : ℕ} → s.machine.halted ≡ false → 0 < n → step_def s ≡ failed f → run_from n s ≡ idle (Failed f) s
+pub run_failed : (n : ℕ) (s : State) {f : Failure} → s.machine.halted ≡ false → 0 < n → step_def s ≡ failed f → run_from n s ≡ idle (Failed f) s
 run_failed n s h p e = run_by n s h p e
 
 pub more_more : (v w : Work) (r : Ran) → more v (more w r) ≡ more (add_work v w) r

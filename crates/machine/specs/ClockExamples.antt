@@ -7,6 +7,7 @@ use Rattle.effect.specs.Effects.{unary_of}
 use Rattle.effect.specs.Skips.{skips_of}
 use Rattle.machine.specs.declared.Clock.{Clock}
 use Rattle.machine.specs.declared.Request.{Request}
+use Rattle.machine.specs.declared.failure.Failure.TheVariants.{OverBudget, UnknownWord, WrongCooperative, WrongImage, WrongP}
 use Rattle.machine.specs.declared.Outcome.{Outcome}
 use Rattle.machine.specs.declared.Outcome.TheVariants.{Halted, Spent, Failed}
 use Rattle.machine.specs.State.{State, state}
@@ -79,7 +80,7 @@ Row = String × Request × State × Outcome × ℕ × Clock
 abbrev runs : List Row
 runs =
     ("the last cooperative", ask 15 10, at 9 false image, Halted, 1, later 4294967295 15 116)
-    ∷ ("a step before one that fails is counted", ask 2 10, at 5 false image, Failed 20, 1, later 4294967295 2 103)
+    ∷ ("a step before one that fails is counted", ask 2 10, at 5 false image, Failed UnknownWord, 1, later 4294967295 2 103)
     ∷ ("a spent run", ask 7 1, at 5 false image, Spent, 1, later 4294967295 7 0)
     ∷ []
 
@@ -97,21 +98,21 @@ abbrev idles : List Idle
 idles =
     ("a halted state", ask 2 10, at 9 true image, Halted)
     ∷ ("a budget of 0", ask 2 0, at 9 false image, Spent)
-    ∷ ("the first step fails", ask 2 10, at 6 false image, Failed 20)
-    ∷ ("a wrong image", ask 2 10, at 9 false (0 ∷ image), Failed 1)
-    ∷ ("a wrong P", ask 2 10, at 16384 false image, Failed 23)
-    ∷ ("a wrong budget", ask 2 1000001, at 9 false image, Failed 22)
-    ∷ ("a wrong image and P", ask 2 10, at 16384 false (0 ∷ image), Failed 1)
-    ∷ ("a wrong image and budget", ask 2 1000001, at 9 false (0 ∷ image), Failed 1)
-    ∷ ("a wrong P and budget", ask 2 1000001, at 16384 false image, Failed 23)
-    ∷ ("a cooperative above 15", ask 16 10, at 9 false image, Failed 27)
-    ∷ ("one that is 0 in eight bits", ask 256 10, at 9 false image, Failed 27)
-    ∷ ("one that is 0 in sixteen bits", ask 65536 10, at 9 false image, Failed 27)
-    ∷ ("a wrong cooperative and image", ask 16 10, at 9 false (0 ∷ image), Failed 27)
-    ∷ ("a wrong cooperative and P", ask 16 10, at 16384 false image, Failed 27)
-    ∷ ("a wrong cooperative and budget", ask 16 1000001, at 9 false image, Failed 27)
-    ∷ ("a wrong cooperative, halted", ask 16 10, at 9 true image, Failed 27)
-    ∷ ("all of these", ask 4294967295 1000001, at 16384 true [], Failed 27)
+    ∷ ("the first step fails", ask 2 10, at 6 false image, Failed UnknownWord)
+    ∷ ("a wrong image", ask 2 10, at 9 false (0 ∷ image), Failed WrongImage)
+    ∷ ("a wrong P", ask 2 10, at 16384 false image, Failed WrongP)
+    ∷ ("a wrong budget", ask 2 1000001, at 9 false image, Failed OverBudget)
+    ∷ ("a wrong image and P", ask 2 10, at 16384 false (0 ∷ image), Failed WrongImage)
+    ∷ ("a wrong image and budget", ask 2 1000001, at 9 false (0 ∷ image), Failed WrongImage)
+    ∷ ("a wrong P and budget", ask 2 1000001, at 16384 false image, Failed WrongP)
+    ∷ ("a cooperative above 15", ask 16 10, at 9 false image, Failed WrongCooperative)
+    ∷ ("one that is 0 in eight bits", ask 256 10, at 9 false image, Failed WrongCooperative)
+    ∷ ("one that is 0 in sixteen bits", ask 65536 10, at 9 false image, Failed WrongCooperative)
+    ∷ ("a wrong cooperative and image", ask 16 10, at 9 false (0 ∷ image), Failed WrongCooperative)
+    ∷ ("a wrong cooperative and P", ask 16 10, at 16384 false image, Failed WrongCooperative)
+    ∷ ("a wrong cooperative and budget", ask 16 1000001, at 9 false image, Failed WrongCooperative)
+    ∷ ("a wrong cooperative, halted", ask 16 10, at 9 true image, Failed WrongCooperative)
+    ∷ ("all of these", ask 4294967295 1000001, at 16384 true [], Failed WrongCooperative)
     ∷ []
 
 -- state and record stay

@@ -8,6 +8,7 @@ use Rattle.effect.specs.Double.{multiply_of, divide_of, long_left_of, long_right
 use Rattle.effect.specs.Effects.{operate_of, unary_of}
 use Rattle.effect.specs.Skips.{skips_of}
 use Rattle.machine.specs.declared.Machine.{Machine}
+use Rattle.machine.specs.declared.failure.Failure.TheVariants.{LongChain, UnknownWord}
 use Rattle.machine.specs.declared.Outcome.{Outcome}
 use Rattle.machine.specs.declared.Outcome.TheVariants.{Halted, Spent, Failed}
 use Rattle.machine.specs.State.{state}
@@ -128,7 +129,7 @@ rows =
     ) ∷ (
       "17 are not: STA fails with 21, and A, P and the word stay",
       from 7 0o1000 ((0o1000, 0o110200) ∷ (0o220, 0o300) ∷ (0o300, 0o4321) ∷ chain 16) 1,
-      to (Failed 21) 0 7 0o1000 ((0o300, 0o4321) ∷ []),
+      to (Failed LongChain) 0 7 0o1000 ((0o300, 0o4321) ∷ []),
     ) ∷
     -- P past the last word (I4, I8); HLT is a step, and halts with the budget's last (R3, R4)
     (
@@ -150,7 +151,7 @@ rows =
     (
       "a word that is no instruction fails with 20 after the steps before it",
       from 0 0o1000 ((0o1000, 0o101000) ∷ (0o1001, 0o026000) ∷ []) 5,
-      to (Failed 20) 1 0 0o1001 [],
+      to (Failed UnknownWord) 1 0 0o1001 [],
     ) ∷
     -- A and B together (I16 to I19)
     (
@@ -164,7 +165,7 @@ rows =
     ) ∷ (
       "LLS by 14 fails with 20",
       from 7 0o1000 ((0o1000, 0o041162) ∷ []) 1,
-      to (Failed 20) 0 7 0o1000 [],
+      to (Failed UnknownWord) 0 7 0o1000 [],
     ) ∷ []
 
 examples : map (λ (row : String × Before × After). shown row.2.words (run row.1)) rows ≡ map {B = After} (λ (row : String × Before × After). row.2) rows

@@ -6,7 +6,8 @@ use Rattle.machine.specs.declared.Outcome.{Outcome}
 use Rattle.machine.specs.declared.Outcome.TheVariants.{Halted, Spent, Failed}
 use Rattle.machine.specs.declared.Machine.{Machine}
 use Rattle.machine.specs.declared.Report.{Report}
-use Rattle.machine.specs.Failure.{wrong_image, over_budget, wrong_p, wrong_cooperative}
+use Rattle.machine.specs.declared.failure.Failure.{Failure}
+use Rattle.machine.specs.declared.failure.Failure.TheVariants.{WrongImage, OverBudget, WrongP, WrongCooperative}
 use Rattle.machine.specs.State.{State}
 use Rattle.machine.specs.Step.{Step, made, failed, step_def}
 use Rattle.machine.specs.Clock.{cooperatives, spend_many}
@@ -60,12 +61,12 @@ run_from (suc n) s = cond s.machine.halted (idle Halted s) (go_on s (λ (t : Sta
 unfoldable pub run_def : Request → State → Ran
 run_def request s =
     -- the causes of 27, 1, 23 and 22 (F27, F1, F23, F22)
-    cond (nat_le cooperatives request.cooperative) (idle (Failed wrong_cooperative) s)
+    cond (nat_le cooperatives request.cooperative) (idle (Failed WrongCooperative) s)
     (cond (length s.image == 16384)
-    (cond (nat_lt 16383 s.machine.p) (idle (Failed wrong_p) s)
-    (cond (nat_lt 1000000 request.budget) (idle (Failed over_budget) s)
+    (cond (nat_lt 16383 s.machine.p) (idle (Failed WrongP) s)
+    (cond (nat_lt 1000000 request.budget) (idle (Failed OverBudget) s)
     (run_from request.budget s)))
-    (idle (Failed wrong_image) s))
+    (idle (Failed WrongImage) s))
 
 -- the answer of a run that began at this clock record, which its steps have moved on (R8, R12)
 abbrev pub ended_of : Request → Clock → Work → Outcome → Machine → Report
@@ -76,8 +77,8 @@ abbrev pub report_of : Request → Clock → Ran → Report
 report_of request clock r = ended_of request clock r.work r.outcome r.state.machine
 
 -- the answer of a run that is refused: clock record and machine are those handed in (R7)
-abbrev pub refusal_of : ℕ → Machine → Clock → Report
-refusal_of number m clock = record { steps = 0; outcome = Failed number; machine = m; clock = clock }
+abbrev pub refusal_of : Failure → Machine → Clock → Report
+refusal_of f m clock = record { steps = 0; outcome = Failed f; machine = m; clock = clock }
 
 -- a call reports this run, and leaves its image
 abbrev pub Reports : Request → Clock → Ran → Report → List ℕ → Type 0

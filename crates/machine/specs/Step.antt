@@ -1,5 +1,5 @@
 -- One step of the machine.
-use Rattle.std.specs.Prelude.{◌≡◌, ℕ, ◌+◌, ◌*◌, ◌/◌, ◌%◌, cond, List, ◌==◌, slice_index, slice_index_or, slice_set}
+use Rattle.std.specs.Prelude.{◌≡◌, ℕ, ◌+◌, ◌*◌, ◌/◌, ◌%◌, cond, List, ◌==◌, Result, Ok, Err, slice_index, slice_index_or, slice_set}
 use Rattle.word.specs.Arithmetic.{bit, compare_of}
 use Rattle.instruction.specs.Opcode.{JMP, STA, JST, CAS, IRS, LDX}
 use Rattle.instruction.specs.Slot.{HLT}
@@ -9,11 +9,9 @@ use Rattle.instruction.specs.declared.Instruction.TheVariants.{Memory, Shift, Ge
 use Rattle.effect.specs.Effects.{operate_of, unary_of, shifted_of}
 use Rattle.effect.specs.Skips.{skips_of}
 use Rattle.machine.specs.declared.Machine.{Machine}
-use Rattle.machine.specs.declared.address.Address.{Address}
-use Rattle.machine.specs.declared.address.Address.TheVariants.{At, Long}
-use Rattle.machine.specs.declared.step.Stepped.{Stepped}
-use Rattle.machine.specs.declared.step.Stepped.TheVariants.{Made, Failed}
-use Rattle.machine.specs.Failure.{unknown_word, long_chain}
+use Rattle.machine.specs.declared.address.Reached.{Reached}
+use Rattle.machine.specs.declared.failure.Failure.{Failure}
+use Rattle.machine.specs.declared.failure.Failure.TheVariants.{UnknownWord}
 use Rattle.machine.specs.State.{State, state, at_p, with_registers, stopped}
 use Rattle.machine.specs.Address.{address_of}
 
@@ -50,37 +48,37 @@ generic_def slot m =
     cond (slot == HLT) (stopped (onward m 0))
     (onward (with_registers m (unary_of slot m.registers)) (bit (skips_of slot m.registers m.switches)))
 
--- a step made, or a failure's number, which leaves the state as it was (R6, demand 1d)
+-- a step made, or a failure, which leaves the state as it was (R6, demand 1d)
 pub data Step : Type 0 where
   made : State → Step
-  failed : ℕ → Step
+  failed : Failure → Step
 
 -- at the effective address, unless the chain is too long (I5, F21)
-abbrev pub memory_step : ℕ → Machine → List ℕ → Address → Step
-memory_step opcode m image (At e passed) = made (memory_def opcode e m image)
-memory_step opcode m image Long = failed long_chain
+abbrev pub memory_step : ℕ → Machine → List ℕ → Result Reached Failure → Step
+memory_step opcode m image (Ok r) = made (memory_def opcode r.address m image)
+memory_step opcode m image (Err f) = failed f
 
 -- what an instruction does; a word that is none fails (F20)
 abbrev pub perform : Machine → List ℕ → Instruction → Step
 perform m image (Memory opcode indirect tag sector address) = memory_step opcode m image (address_of image m.p indirect tag sector address)
 perform m image (Shift kind amount) = made (state (onward (with_registers m (shifted_of kind amount m.registers)) 0) image)
 perform m image (Generic slot) = made (state (generic_def slot m) image)
-perform m image Unknown = failed unknown_word
+perform m image Unknown = failed UnknownWord
 
 -- one step: the word at P, decoded and performed (demand 2c)
 unfoldable pub step_def : State → Step
 step_def s = perform s.machine s.image (decode_def (slice_index s.image s.machine.p))
 
 -- what the step's function answers
-abbrev pub stepped_of : Step → Stepped
-stepped_of (made s) = Made s.machine
-stepped_of (failed n) = Failed n
+abbrev pub stepped_of : Step → Result Machine Failure
+stepped_of (made s) = Ok s.machine
+stepped_of (failed f) = Err f
 
 -- the image that it leaves: as it was, where the step fails (R6, demand 1d)
 abbrev pub image_left : List ℕ → Step → List ℕ
 image_left image (made s) = s.image
-image_left image (failed n) = image
+image_left image (failed f) = image
 
 -- a call makes this step, on an image that was so before
-abbrev pub Makes : List ℕ → Step → Stepped → List ℕ → Type 0
+abbrev pub Makes : List ℕ → Step → Result Machine Failure → List ℕ → Type 0
 Makes before step answer after = (answer ≡ stepped_of step) × (after ≡ image_left before step)

@@ -1,15 +1,15 @@
 // The effective address.
-ghost use Rattle.std.specs.Prelude.{◌≡◌, ◌<◌, length, slice_index};
+ghost use Rattle.std.specs.Prelude.{◌≡◌, ◌<◌, slice_index};
 ghost use Rattle.machine.specs.Address.{base_of, indexed_of, follow_of};
 
-use crate::MEMORY;
+use crate::{Failure, Image, MEMORY};
 use instruction::field;
 
-// An address with the number of indirect words passed, which is there for what they will cost, or a chain of more than 16.
-#[derive(Drop)]
-pub enum Address {
-    At(u16, u16),
-    Long,
+// An address with the number of indirect words passed, which is there for what they will cost.
+#[derive(Debug, Clone, Copy, PartialEq, Eq)]
+pub struct Reached {
+    pub address: u16,
+    pub passed: u16,
 }
 
 pub fn base(p: u16, sector: bool, address: u16) -> u16
@@ -24,8 +24,8 @@ pub fn base(p: u16, sector: bool, address: u16) -> u16
 }
 
 // X is read only under the tag: most instructions have none.
-pub fn indexed(image: &[u16], at: u16, tag: bool) -> u16
-    requires { (length image.now ≡ 16384) × (at < 16384) }
+pub fn indexed(image: &Image, at: u16, tag: bool) -> u16
+    requires { at < 16384 }
     ensures { (result ≡ indexed_of at tag (slice_index image.now 0)) × (result < 16384) }
 {
     if tag {
@@ -38,8 +38,8 @@ pub fn indexed(image: &[u16], at: u16, tag: bool) -> u16
 
 // The effective address, after at most 16 indirect words.
 #[tactic(auto, using(crate::proofs::Chains::for_follow))]
-pub fn follow(image: &[u16], indirect: bool, at: u16) -> Address
-    requires { (length image.now ≡ 16384) × (at < 16384) }
+pub fn follow(image: &Image, indirect: bool, at: u16) -> Result<Reached, Failure>
+    requires { at < 16384 }
     ensures { result ≡ follow_of image.now 16 indirect at }
 {
     let mut at = at;
@@ -47,12 +47,15 @@ pub fn follow(image: &[u16], indirect: bool, at: u16) -> Address
     let mut remaining: u16 = 16;
     while indirect {
         if remaining == 0 {
-            return Address::Long;
+            return Err(Failure::LongChain);
         }
         let w = image[at as usize];
         at = indexed(image, w % MEMORY, field::is_tagged(w));
         indirect = field::is_indirect(w);
         remaining -= 1;
     }
-    Address::At(at, 16 - remaining)
+    Ok(Reached {
+        address: at,
+        passed: 16 - remaining,
+    })
 }

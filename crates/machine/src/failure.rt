@@ -1,12 +1,38 @@
 // The machine's failures by their numbers (F1, F20 to F23, F27).
-pub const WRONG_IMAGE: u16 = 1;
+ghost use Rattle.std.specs.Prelude.{◌≡◌, Some};
+ghost use Rattle.machine.specs.Failure.{number_of, words_of};
 
-pub const UNKNOWN_WORD: u16 = 20;
+use std::fmt;
 
-pub const LONG_CHAIN: u16 = 21;
+#[derive(Debug, Clone, Copy, PartialEq, Eq)]
+pub enum Failure {
+    WrongImage = 1,
+    UnknownWord = 20,
+    LongChain = 21,
+    OverBudget = 22,
+    WrongP = 23,
+    WrongCooperative = 27,
+}
 
-pub const OVER_BUDGET: u16 = 22;
+impl Failure {
+    pub fn number(self) -> u16
+        ensures { result ≡ number_of self }
+    {
+        self as u16
+    }
+}
 
-pub const WRONG_P: u16 = 23;
+impl fmt::Display for Failure {
+    ghost output = { λ f. Some (words_of f) };
 
-pub const WRONG_COOPERATIVE: u16 = 27;
+    fn fmt<W: fmt::Write>(&self, f: &mut fmt::Formatter<W>) -> fmt::Result {
+        f.write_str(match self {
+            Failure::WrongImage => "the image has not 16,384 words",
+            Failure::UnknownWord => "the word at P is no instruction",
+            Failure::LongChain => "more than 16 indirect words in a row",
+            Failure::OverBudget => "budget above 1,000,000 steps",
+            Failure::WrongP => "P is outside the 16,384 words",
+            Failure::WrongCooperative => "cooperative above 15",
+        })
+    }
+}

@@ -1,5 +1,4 @@
 // The clock record that all cases start with, and what they leave of it.
-use case_output::{decimal, text};
 use machine::Clock;
 
 // The clock is two steps before it wraps; each count has a value of its own, and that of cooperative 7 is one step before it wraps.
@@ -12,43 +11,29 @@ pub fn start() -> Clock {
     }
 }
 
-// Whether every count but one is as it was.
-fn others_kept(before: [u32; 16], after: [u32; 16], own: u32) -> bool {
-    for i in 0..16u32 {
-        if i != own {
-            if before[i as usize] != after[i as usize] {
-                return false;
-            }
-        }
-    }
-    true
-}
-
 // The clock and the cooperative's count, and whether the others are as they were.
 pub fn print(rt: &impl Print, cooperative: u32, before: Clock, after: Clock) {
-    let old = before.counts;
-    let new = after.counts;
-    text(rt, b", clock ");
-    decimal(rt, after.common);
-    if cooperative < 16 {
-        text(rt, b", count ");
-        decimal(rt, new[cooperative as usize]);
-    } else {
-        text(rt, b", no count");
-    }
-    if others_kept(old, new, cooperative) {
-        text(rt, b", others kept\n");
-    } else {
-        text(rt, b", others changed\n");
-    }
+    let own = cooperative as usize;
+    let common = after.common;
+    let _ = print!(rt; ", clock {common}");
+    let _ = match after.counts.get(own) {
+        Some(count) => print!(rt; ", count {count}"),
+        None => print!(rt; ", no count"),
+    };
+    let kept = before
+        .counts
+        .iter()
+        .zip(&after.counts)
+        .enumerate()
+        .all(|(i, (old, new))| i == own || old == new);
+    let others = if kept { "kept" } else { "changed" };
+    let _ = println!(rt; ", others {others}");
 }
 
 // The whole record.
-pub fn print_all(rt: &impl Print, clock: Clock) {
-    let counts = clock.counts;
-    text(rt, b": clock ");
-    decimal(rt, clock.common);
-    text(rt, b", counts");
-    case_output::counts(rt, counts);
-    text(rt, b"\n");
+pub fn print_all(rt: &impl Print, name: &str, clock: Clock) {
+    let common = clock.common;
+    let _ = print!(rt; "{name}: clock {common}, counts");
+    case_output::counts(rt, clock.counts);
+    let _ = println!(rt; "");
 }

@@ -3,15 +3,12 @@
 
 ghost use Rattle.std.specs.Prelude.{◌≤◌};
 
-use case_output::{decimal, text};
 use effect::{Registers, Switches};
 use image::{CHAIN, LONG, LOOP, NOPS, UNKNOWN};
 use machine::{Clock, Machine, Report, Request};
 
 mod clock;
 mod image;
-mod kept;
-mod print;
 
 fn machine_at(p: u16, halted: bool) -> Machine {
     Machine {
@@ -31,24 +28,23 @@ fn machine_at(p: u16, halted: bool) -> Machine {
     }
 }
 
-fn print_report(rt: &impl Print, name: &[u8], r: Report, kept: bool) {
-    let o = r.outcome;
-    text(rt, name);
-    print::outcome(rt, o);
-    decimal(rt, r.steps);
-    if kept {
-        text(rt, b" steps, state kept, P ");
-    } else {
-        text(rt, b" steps, state changed, P ");
-    }
-    decimal(rt, r.machine.p as u32);
+fn print_report(rt: &impl Print, name: &str, r: Report, kept: bool) {
+    let Report {
+        steps,
+        outcome,
+        machine,
+        clock: _,
+    } = r;
+    let state = if kept { "kept" } else { "changed" };
+    let p = machine.p;
+    let _ = print!(rt; "{name}: {outcome}, {steps} steps, state {state}, P {p}");
 }
 
 // A run on an image of so many words.
 fn attempt_for(
     rt: &impl Print,
     cooperative: u32,
-    name: &[u8],
+    name: &str,
     words: usize,
     p: u16,
     halted: bool,
@@ -66,133 +62,120 @@ fn attempt_for(
         cooperative,
     };
     let r = machine::run(&mut image[..words], m, clock, request);
-    let n = r.machine;
-    let kept = kept::same_machine(m, n) && kept::same_image(&before, &image);
+    // P is left out: it is printed.
+    let p = r.machine.p;
+    let kept = r.machine == Machine { p, ..m } && image == before;
     print_report(rt, name, r, kept);
     clock::print(rt, cooperative, clock, r.clock);
 }
 
-fn attempt(rt: &impl Print, name: &[u8], words: usize, p: u16, halted: bool, budget: u32)
+fn attempt(rt: &impl Print, name: &str, words: usize, p: u16, halted: bool, budget: u32)
     requires { words ≤ 16385 }
 {
     attempt_for(rt, 3, name, words, p, halted, budget);
 }
 
 fn images(rt: &impl Print) {
-    attempt(rt, b"image of 0 words", 0, LOOP, false, 10);
-    attempt(rt, b"image of 16383 words", 16383, LOOP, false, 10);
-    attempt(rt, b"image of 16384 words", 16384, LOOP, false, 10);
-    attempt(rt, b"image of 16385 words", 16385, LOOP, false, 10);
+    attempt(rt, "image of 0 words", 0, LOOP, false, 10);
+    attempt(rt, "image of 16383 words", 16383, LOOP, false, 10);
+    attempt(rt, "image of 16384 words", 16384, LOOP, false, 10);
+    attempt(rt, "image of 16385 words", 16385, LOOP, false, 10);
 }
 
 fn budgets(rt: &impl Print) {
-    attempt(rt, b"budget 0", 16384, LOOP, false, 0);
-    attempt(rt, b"budget 1000000", 16384, LOOP, false, 1000000);
-    attempt(rt, b"budget 1000001", 16384, LOOP, false, 1000001);
+    attempt(rt, "budget 0", 16384, LOOP, false, 0);
+    attempt(rt, "budget 1000000", 16384, LOOP, false, 1000000);
+    attempt(rt, "budget 1000001", 16384, LOOP, false, 1000001);
 }
 
 fn counters(rt: &impl Print) {
-    attempt(rt, b"P 16383", 16384, 16383, false, 10);
-    attempt(rt, b"P 16384", 16384, 16384, false, 10);
-    attempt(rt, b"P 65535", 16384, 65535, false, 10);
+    attempt(rt, "P 16383", 16384, 16383, false, 10);
+    attempt(rt, "P 16384", 16384, 16384, false, 10);
+    attempt(rt, "P 65535", 16384, 65535, false, 10);
 }
 
 fn halts(rt: &impl Print) {
-    attempt(rt, b"halted, budget 0", 16384, LOOP, true, 0);
-    attempt(rt, b"halted, budget 1000000", 16384, LOOP, true, 1000000);
-    attempt(rt, b"halted, budget 1000001", 16384, LOOP, true, 1000001);
-    attempt(rt, b"halted, P 16384", 16384, 16384, true, 10);
-    attempt(rt, b"halted, image of 16383 words", 16383, LOOP, true, 10);
+    attempt(rt, "halted, budget 0", 16384, LOOP, true, 0);
+    attempt(rt, "halted, budget 1000000", 16384, LOOP, true, 1000000);
+    attempt(rt, "halted, budget 1000001", 16384, LOOP, true, 1000001);
+    attempt(rt, "halted, P 16384", 16384, 16384, true, 10);
+    attempt(rt, "halted, image of 16383 words", 16383, LOOP, true, 10);
 }
 
 fn order(rt: &impl Print) {
     attempt(
         rt,
-        b"wrong image, P and budget",
+        "wrong image, P and budget",
         16383,
         16384,
         false,
         1000001,
     );
-    attempt(rt, b"wrong image and P", 16383, 16384, false, 10);
-    attempt(rt, b"wrong image and budget", 16383, LOOP, false, 1000001);
-    attempt(rt, b"wrong P and budget", 16384, 16384, false, 1000001);
+    attempt(rt, "wrong image and P", 16383, 16384, false, 10);
+    attempt(rt, "wrong image and budget", 16383, LOOP, false, 1000001);
+    attempt(rt, "wrong P and budget", 16384, 16384, false, 1000001);
 }
 
 fn failures(rt: &impl Print) {
-    attempt(rt, b"16 indirect words", 16384, CHAIN, false, 10);
-    attempt(rt, b"17 indirect words", 16384, LONG + 1, false, 10);
-    attempt(
-        rt,
-        b"17 indirect words after a step",
-        16384,
-        LONG,
-        false,
-        10,
-    );
-    attempt(rt, b"17 indirect words not reached", 16384, LONG, false, 1);
-    attempt(rt, b"no instruction", 16384, UNKNOWN + 1, false, 10);
-    attempt(
-        rt,
-        b"no instruction after a step",
-        16384,
-        UNKNOWN,
-        false,
-        10,
-    );
-    attempt(rt, b"no instruction not reached", 16384, UNKNOWN, false, 1);
+    attempt(rt, "16 indirect words", 16384, CHAIN, false, 10);
+    attempt(rt, "17 indirect words", 16384, LONG + 1, false, 10);
+    attempt(rt, "17 indirect words after a step", 16384, LONG, false, 10);
+    attempt(rt, "17 indirect words not reached", 16384, LONG, false, 1);
+    attempt(rt, "no instruction", 16384, UNKNOWN + 1, false, 10);
+    attempt(rt, "no instruction after a step", 16384, UNKNOWN, false, 10);
+    attempt(rt, "no instruction not reached", 16384, UNKNOWN, false, 1);
 }
 
 fn clocks(rt: &impl Print) {
-    attempt(rt, b"clock up to the last", 16384, NOPS, false, 1);
-    attempt(rt, b"clock at zero", 16384, NOPS, false, 2);
-    attempt(rt, b"clock through zero", 16384, NOPS, false, 10);
+    attempt(rt, "clock up to the last", 16384, NOPS, false, 1);
+    attempt(rt, "clock at zero", 16384, NOPS, false, 2);
+    attempt(rt, "clock through zero", 16384, NOPS, false, 10);
 }
 
 fn cooperatives(rt: &impl Print) {
-    attempt_for(rt, 0, b"cooperative 0", 16384, NOPS, false, 10);
-    attempt_for(rt, 15, b"cooperative 15", 16384, NOPS, false, 10);
-    attempt_for(rt, 16, b"cooperative 16", 16384, NOPS, false, 10);
-    attempt_for(rt, 256, b"cooperative 256", 16384, NOPS, false, 10);
-    attempt_for(rt, 65536, b"cooperative 65536", 16384, NOPS, false, 10);
+    attempt_for(rt, 0, "cooperative 0", 16384, NOPS, false, 10);
+    attempt_for(rt, 15, "cooperative 15", 16384, NOPS, false, 10);
+    attempt_for(rt, 16, "cooperative 16", 16384, NOPS, false, 10);
+    attempt_for(rt, 256, "cooperative 256", 16384, NOPS, false, 10);
+    attempt_for(rt, 65536, "cooperative 65536", 16384, NOPS, false, 10);
     attempt_for(
         rt,
         4294967295,
-        b"cooperative 4294967295",
+        "cooperative 4294967295",
         16384,
         NOPS,
         false,
         10,
     );
-    attempt_for(rt, 7, b"count at zero", 16384, NOPS, false, 1);
-    attempt_for(rt, 7, b"count through zero", 16384, NOPS, false, 10);
+    attempt_for(rt, 7, "count at zero", 16384, NOPS, false, 1);
+    attempt_for(rt, 7, "count through zero", 16384, NOPS, false, 10);
 }
 
 fn wrong_cooperatives(rt: &impl Print) {
     attempt_for(
         rt,
         16,
-        b"cooperative 16, wrong image",
+        "cooperative 16, wrong image",
         16383,
         NOPS,
         false,
         10,
     );
-    attempt_for(rt, 16, b"cooperative 16, wrong P", 16384, 16384, false, 10);
+    attempt_for(rt, 16, "cooperative 16, wrong P", 16384, 16384, false, 10);
     attempt_for(
         rt,
         16,
-        b"cooperative 16, wrong budget",
+        "cooperative 16, wrong budget",
         16384,
         NOPS,
         false,
         1000001,
     );
-    attempt_for(rt, 16, b"cooperative 16, halted", 16384, NOPS, true, 10);
+    attempt_for(rt, 16, "cooperative 16, halted", 16384, NOPS, true, 10);
     attempt_for(
         rt,
         16,
-        b"cooperative 16 and all else wrong",
+        "cooperative 16 and all else wrong",
         0,
         65535,
         true,
@@ -216,8 +199,7 @@ fn on_one_machine(rt: &impl Print) {
     let first = go_on(1, &mut image, machine_at(NOPS, false), clock::start(), 2);
     let refused = go_on(16, &mut image, first.machine, first.clock, 2);
     let second = go_on(2, &mut image, refused.machine, refused.clock, 10);
-    text(rt, b"two cooperatives on one machine");
-    clock::print_all(rt, second.clock);
+    clock::print_all(rt, "two cooperatives on one machine", second.clock);
 }
 
 // 1 makes two steps and 2 ten, each on a machine of its own; then 1 goes on to the halt.
@@ -228,29 +210,30 @@ fn on_two_machines(rt: &impl Print) {
     let first = go_on(1, &mut image, machine_at(NOPS, false), clock::start(), 2);
     let second = go_on(2, &mut other, machine_at(LOOP, false), first.clock, 10);
     let third = go_on(1, &mut image, first.machine, second.clock, 10);
-    text(rt, b"two cooperatives on two machines");
-    clock::print_all(rt, third.clock);
+    clock::print_all(rt, "two cooperatives on two machines", third.clock);
 }
 
 // With the counts as at the start: they are no part of it.
-fn deadline(rt: &impl Print, name: &[u8], now: u32, deadline: u32) {
-    let mut clock = clock::start();
-    clock.common = now;
-    text(rt, name);
-    if machine::due(clock, deadline) {
-        text(rt, b": due\n");
+fn deadline(rt: &impl Print, name: &str, now: u32, deadline: u32) {
+    let clock = Clock {
+        common: now,
+        ..clock::start()
+    };
+    let due = if machine::due(clock, deadline) {
+        "due"
     } else {
-        text(rt, b": not due\n");
-    }
+        "not due"
+    };
+    let _ = println!(rt; "{name}: {due}");
 }
 
 fn deadlines(rt: &impl Print) {
-    deadline(rt, b"clock at the deadline", 1000, 1000);
-    deadline(rt, b"clock 2^31 - 1 after it", 2147484647, 1000);
-    deadline(rt, b"clock 2^31 after it", 2147484648, 1000);
-    deadline(rt, b"deadline one ahead", 999, 1000);
-    deadline(rt, b"deadline 4294967290, clock 5", 5, 4294967290);
-    deadline(rt, b"deadline 5, clock 4294967290", 4294967290, 5);
+    deadline(rt, "clock at the deadline", 1000, 1000);
+    deadline(rt, "clock 2^31 - 1 after it", 2147484647, 1000);
+    deadline(rt, "clock 2^31 after it", 2147484648, 1000);
+    deadline(rt, "deadline one ahead", 999, 1000);
+    deadline(rt, "deadline 4294967290, clock 5", 5, 4294967290);
+    deadline(rt, "deadline 5, clock 4294967290", 4294967290, 5);
 }
 
 fn main(rt: HostRuntime) {

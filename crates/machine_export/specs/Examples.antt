@@ -6,6 +6,7 @@ use Rattle.machine.specs.declared.Clock.{Clock}
 use Rattle.machine.specs.declared.Request.{Request}
 use Rattle.machine.specs.declared.Machine.{Machine}
 use Rattle.machine.specs.declared.Report.{Report}
+use Rattle.machine.specs.declared.failure.Failure.TheVariants.{UnknownWord, LongChain}
 use Rattle.machine.specs.declared.Outcome.TheVariants.{Halted, Spent, Failed}
 use Rattle.machine.specs.Address.{follow_of}
 use Rattle.machine.specs.Step.{memory_def, generic_def, step_def}
@@ -81,13 +82,13 @@ read_request = refl
 
 -- how the run ended, its failure and its steps (R11)
 abbrev reported : Report
-reported = record { steps = 16; outcome = Failed 20; machine = machine; clock = clock }
+reported = record { steps = 16; outcome = Failed UnknownWord; machine = machine; clock = clock }
 
 written_report : with_report (replicate REPORT 99) reported ≡ 2 ∷ 20 ∷ 16 ∷ []
 unfolding with_report stored
 written_report = refl
 
-endings : map {B = ℕ} outcome_of (Halted ∷ Spent ∷ Failed 21 ∷ []) ≡ 0 ∷ 1 ∷ 2 ∷ []
+endings : map {B = ℕ} outcome_of (Halted ∷ Spent ∷ Failed LongChain ∷ []) ≡ 0 ∷ 1 ∷ 2 ∷ []
 endings = refl
 
 -- ---- What fits (R11)

@@ -83,7 +83,7 @@ request_of request = record { budget = get_or request BUDGET 0; cooperative = ge
 abbrev pub outcome_of : Outcome → ℕ
 outcome_of Halted = 0
 outcome_of Spent = 1
-outcome_of (Failed n) = 2
+outcome_of (Failed f) = 2
 
 -- the numbers with others at these places
 unfoldable pub stored : List (ℕ × ℕ) → List ℕ → List ℕ

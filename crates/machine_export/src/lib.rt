@@ -1,12 +1,11 @@
 // The machine for other languages, on slices of numbers (R11). specs/Places.antt says which number is what.
 #![tactic(auto)]
 
-ghost use Rattle.std.specs.Prelude.{◌≡◌, ◌<◌, length};
+ghost use Rattle.std.specs.Prelude.{◌≡◌, ◌<◌, length, true};
 ghost use Rattle.word.specs.Arithmetic.{bit};
-ghost use Rattle.machine.specs.Failure.{failure_of};
 ghost use Rattle.machine.specs.Clock.{due_of};
 ghost use Rattle.machine_export.specs.Places.{MACHINE, CLOCK, REPORT};
-ghost use Rattle.machine_export.specs.Export.{numbers, sized, words_fit, flags_fit, WordsFit, fits_of, flag_of, machine_of, clock_of};
+ghost use Rattle.machine_export.specs.Export.{numbers, sized, words_fit, flags_fit, WordsFit, Fitting, fits_of, flag_of, machine_of, clock_of};
 ghost use Rattle.machine_export.specs.Export.{outcome_of, with_machine, clock_numbers, with_report, Called};
 
 use effect::{Registers, Switches};
@@ -83,9 +82,10 @@ fn flags_fit(machine: &[u32]) -> bool
 }
 
 // Whether the numbers are a call's: all there, words where words are due, and flags of 0 or 1.
-#[tactic(auto, unfolding(crate::specs::Export::fits_of))]
+#[tactic(auto, using(crate::proofs::Facts::fitting), unfolding(crate::specs::Export::fits_of))]
 fn fits(machine: &[u32], clock: &[u32], request: &[u32], report: &[u32]) -> bool
-    ensures { result ≡ fits_of (numbers machine.now clock.now request.now report.now) }
+    ensures said { result ≡ fits_of (numbers machine.now clock.now request.now report.now) }
+    ensures fitting { result ≡ true → Fitting (numbers machine.now clock.now request.now report.now) }
 {
     sizes_fit(machine, clock, request, report) && words_fit(machine) && flags_fit(machine)
 }
@@ -125,20 +125,16 @@ fn clock_of(clock: &[u32]) -> Clock
     requires { length clock.now ≡ CLOCK }
     ensures { result ≡ clock_of clock.now }
 {
-    let mut counts = [0u32; COOPERATIVES];
-    for i in 0..COOPERATIVES {
-        counts[i] = clock[COUNTS + i];
-    }
     Clock {
         common: clock[COMMON],
-        counts,
+        counts: <[u32; COOPERATIVES]>::try_from(&clock[COUNTS..]).unwrap(),
     }
 }
 
 fn number(flag: bool) -> u32
     ensures { result ≡ bit flag }
 {
-    word::bit(flag) as u32
+    u32::from(flag)
 }
 
 fn outcome(ended: Outcome) -> u32
@@ -148,16 +144,6 @@ fn outcome(ended: Outcome) -> u32
         Outcome::Halted => 0,
         Outcome::Spent => 1,
         Outcome::Failed(_) => 2,
-    }
-}
-
-fn failure(ended: Outcome) -> u32
-    ensures { result ≡ failure_of ended }
-{
-    match ended {
-        Outcome::Halted => 0,
-        Outcome::Spent => 0,
-        Outcome::Failed(cause) => cause as u32,
     }
 }
 
@@ -179,15 +165,13 @@ fn put_machine(numbers: &mut [u32], machine: Machine)
     numbers[HALTED] = number(machine.halted);
 }
 
+#[tactic(auto, using(crate::proofs::Copies::behind_first))]
 fn put_clock(numbers: &mut [u32], clock: Clock)
     requires { length numbers.old ≡ CLOCK }
     ensures { numbers.new ≡ clock_numbers clock }
 {
-    let counts = clock.counts;
     numbers[COMMON] = clock.common;
-    for i in 0..COOPERATIVES {
-        numbers[COUNTS + i] = counts[i];
-    }
+    numbers[COUNTS..].copy_from_slice(&clock.counts);
 }
 
 #[tactic(auto, unfolding(crate::specs::Export::with_report, crate::specs::Export::stored))]
@@ -197,7 +181,7 @@ fn put_report(numbers: &mut [u32], report: Report)
 {
     let ended = report.outcome;
     numbers[OUTCOME] = outcome(ended);
-    numbers[FAILURE] = failure(ended);
+    numbers[FAILURE] = u32::from(ended.number());
     numbers[STEPS] = report.steps;
 }
 
@@ -213,25 +197,27 @@ pub fn machine_run(
         (numbers machine.old clock.old request.now report.old) image.old result
         (numbers machine.new clock.new request.now report.new) image.new }
 {
-    if fits(&*machine, &*clock, request, &*report) {
-        let asked = Request {
-            budget: request[BUDGET],
-            cooperative: request[COOPERATIVE],
-        };
-        let ran = machine::run(&mut *image, machine_of(&*machine), clock_of(&*clock), asked);
-        put_machine(&mut *machine, ran.machine);
-        put_clock(&mut *clock, ran.clock);
-        put_report(&mut *report, ran);
-        return true;
+    if !fits(&*machine, &*clock, request, &*report) {
+        return false;
     }
-    false
+    let asked = Request {
+        budget: request[BUDGET],
+        cooperative: request[COOPERATIVE],
+    };
+    let ran = machine::run(&mut *image, machine_of(&*machine), clock_of(&*clock), asked);
+    put_machine(&mut *machine, ran.machine);
+    put_clock(&mut *clock, ran.clock);
+    put_report(&mut *report, ran);
+    true
 }
 
 // Whether the deadline has come at this clock, the first number of the record.
 pub fn machine_due(clock: u32, deadline: u32) -> bool
     ensures { result ≡ due_of clock deadline }
 {
-    let mut record = machine::start_clock();
-    record.common = clock;
+    let record = Clock {
+        common: clock,
+        ..machine::start_clock()
+    };
     machine::due(record, deadline)
 }

@@ -1,21 +1,19 @@
 // Writing a case as the vectors have it.
-use case_output::{decimal, ending, flag, text};
-use machine::Report;
+use machine::{Clock, Machine, Report};
 
 // The outcome, the steps, and the state and the clock record that the run left.
-pub fn report(rt: &impl Print, r: Report) {
-    let o = r.outcome;
-    let m = r.machine;
-    let registers = m.registers;
-    let counts = r.clock.counts;
-    text(rt, b"out ");
-    ending(rt, o, r.steps, registers);
-    decimal(rt, m.p as u32);
-    flag(rt, m.halted);
-    text(rt, b" ");
-    decimal(rt, r.clock.common);
-    text(rt, b"\n");
-    text(rt, b"counts");
+pub fn report(rt: &impl Print, report: Report) {
+    let Machine {
+        registers,
+        p,
+        switches: _,
+        halted,
+    } = report.machine;
+    let Clock { common, counts } = report.clock;
+    let halted = u8::from(halted);
+    let _ = print!(rt; "out ");
+    case_output::ending(rt, report.outcome, report.steps, registers);
+    let _ = print!(rt; "{p} {halted} {common}\ncounts");
     case_output::counts(rt, counts);
-    text(rt, b"\n");
+    let _ = println!(rt; "");
 }

@@ -3,28 +3,26 @@
 
 ghost use Rattle.std.specs.Prelude.{◌<◌, ◌^◌};
 
+use case_input::Numbers;
+
 mod input;
 mod lines;
 
-// Runs the case at `at`, and answers where the next one starts.
-fn case(rt: &impl Print, text: &[u8], at: usize, number: u32) -> usize {
+fn case(rt: &impl Print, numbers: &mut Numbers, number: u32) {
     let mut image = [0u16; 16384];
-    let start = input::parse_start(text, at);
-    let next = case_input::parse_words(text, start.next, &mut image);
+    let start = input::read_start(numbers);
+    numbers.set_words(&mut image);
     let before = image;
     let report = machine::run(&mut image, start.machine, start.clock, start.request);
     case_output::case(rt, number);
     lines::report(rt, report);
     case_output::changes(rt, &before, &image);
-    next
 }
 
 fn cases(rt: &impl Print, text: &[u8]) {
-    let count = case_input::parse_number(text, 0);
-    let last = count.value;
-    let mut at = count.next;
-    for i in 0..last {
-        at = case(rt, text, at, i);
+    let mut numbers = Numbers { text, at: 0 };
+    for number in 0..numbers.number() {
+        case(rt, &mut numbers, number);
     }
 }
 

@@ -14,11 +14,32 @@ use lib.Seq.{drop-cons, sets, sets-eq}
 use Rattle.prelude.specs.Choice.{whether, given}
 use Rattle.page.specs.Names.{Name, names_of, good_name}
 use Rattle.page.specs.Page.{page_of, first_failure, failure_of, answer_of, output_after}
-use Rattle.page.specs.Readings.{length_of, failure_at, fitted_of, Sound}
-use Rattle.page.specs.declared.Answer.{Answer}
+use Rattle.page.specs.Readings.{length_of, farm_of, fitted_of, Sound}
+use Rattle.std.specs.Prelude.{Result, Ok, Err}
+use Rattle.std.specs.Result.{is_ok}
+use Rattle.text.specs.Wrote.{largest}
+use Rattle.text.specs.Adds.{Adds}
+use Rattle.text.specs.declared.Text.{Text}
+use Rattle.text.proofs.Laws.{stands}
+use Rattle.page.specs.Failures.{numbered}
+use Rattle.page.specs.declared.failure.Failure.{Failure}
 use Rattle.page.proofs.NameLaws.{Splits, splits}
 use Rattle.page.proofs.FarmLaws.{sound, litres_failure, name_failure_lem, no_failure_lem, Named}
 use Rattle.page.proofs.LineLaws.{lines_length}
+
+-- ---- What a result has
+
+is_made : {A : Type 0} → Result A ℕ → Bool
+is_made (Ok a) = true
+is_made (Err f) = false
+
+length_in : Result ℕ ℕ → ℕ
+length_in (Ok n) = n
+length_in (Err f) = 0
+
+number_in : {A : Type 0} → Result A ℕ → ℕ
+number_in (Ok a) = 0
+number_in (Err f) = f
 
 -- ---- A page of sound farms
 
@@ -28,11 +49,11 @@ page_length names litres s h = lines_length 0 (names_of names) litres s (omega (
 module _ (names litres : List ℕ) (room : ℕ) where
   -- ---- The answer
 
-  by_farm : (f : ℕ) → first_failure (names_of names) litres ≡ some f → answer_of names litres room ≡ Answer.Failed f
+  by_farm : (f : ℕ) → first_failure (names_of names) litres ≡ some f → answer_of names litres room ≡ Err f
   unfolding answer_of failure_of
   by_farm f e = rw e
 
-  by_lists : first_failure (names_of names) litres ≡ none → (length (names_of names) ≡ length litres → ⊥) → answer_of names litres room ≡ Answer.Failed 26
+  by_lists : first_failure (names_of names) litres ≡ none → (length (names_of names) ≡ length litres → ⊥) → answer_of names litres room ≡ Err 26
   unfolding answer_of failure_of
   by_lists e h = rw (e, ne_eqb _ _ h)
 
@@ -41,11 +62,11 @@ module _ (names litres : List ℕ) (room : ℕ) where
   by_room e h = rw (e, eq-eqb _ _ h, h) (go (leb (length litres) 1000) refl (leb (31 * length litres) room))
     where
       go : (a : Bool) → leb (length litres) 1000 ≡ a → (b : Bool)
-          → given (whether (a && b) (λ _. none) (λ _. some 26)) Answer.Failed (λ _. Answer.Made (length (page_of names litres)))
-          ≡ whether (a && b) (λ _. Answer.Made (31 * length litres)) (λ _. Answer.Failed 26)
+          → given {A = ℕ} (whether {A = Option ℕ} (a && b) (λ _. none) (λ _. some 26)) Err (λ _. Ok (length (page_of names litres)))
+          ≡ whether {A = Result ℕ ℕ} (a && b) (λ _. Ok (31 * length litres)) (λ _. Err 26)
       go false q b = refl
       go true q false = refl
-      go true q true = ap Answer.Made (page_length names litres (sound _ _ e h) (leb-true _ _ q))
+      go true q true = ap Ok (page_length names litres (sound _ _ e h) (leb-true _ _ q))
 
 -- ---- The loop, at an offset of the names and a place of the litres
 
@@ -71,12 +92,13 @@ pub record Passed (litres size : ℕ) : Type 0 where
   pub few : litres ≤ 32767
   pub some_bytes : size ≡ 0 → ⊥
 
-pub passed : (litres size : ℕ) → failure_at litres size ≡ 0 → Passed litres size
+pub passed : (litres size : ℕ) → farm_of litres size ≡ Ok tt → Passed litres size
+unfolding is_made
 passed litres size e = go (ltb 32767 litres) (eqb size 0) refl refl e
   where
-    go : (t u : Bool) → ltb 32767 litres ≡ t → eqb size 0 ≡ u → ◌≡◌ {A = ℕ} (whether t (λ _. 24) (λ _. whether u (λ _. 25) (λ _. 0))) 0 → Passed litres size
-    go true u p q e = absurd (omega (arith, e))
-    go false true p q e = absurd (omega (arith, e))
+    go : (t u : Bool) → ltb 32767 litres ≡ t → eqb size 0 ≡ u → ◌≡◌ {A = Result (Unit {0}) ℕ} (whether t (λ _. Err 24) (λ _. whether u (λ _. Err 25) (λ _. Ok tt))) (Ok tt) → Passed litres size
+    go true u p q e = absurd (false≢true (ap is_made e))
+    go false true p q e = absurd (false≢true (ap is_made e))
     go false false p q e = record { few = ltb-false _ _ p; some_bytes = eqb-false _ _ q }
 
 module _ {names litres : List ℕ} {from farms : ℕ} (j : Judging names litres from farms) where
@@ -86,21 +108,22 @@ module _ {names litres : List ℕ} {from farms : ℕ} (j : Judging names litres 
   some_left : from < length names → 0 < length (drop from names)
   some_left h = let l = length-drop from names in omega (arith, l, h)
 
-  pub farm_failed : (room size : ℕ) → from < length names → farms < length litres → size ≡ length_of (names_of (drop from names)) → (failure_at (get_or litres farms 0) size ≡ 0 → ⊥)
-      → answer_of names litres room ≡ Answer.Failed (failure_at (get_or litres farms 0) size)
-  farm_failed room size h k e z = go (ltb 32767 (get_or litres farms 0)) (eqb size 0) refl refl z
+  pub farm_failed : (room size f : ℕ) → from < length names → farms < length litres → size ≡ length_of (names_of (drop from names)) → farm_of (get_or litres farms 0) size ≡ Err f
+      → answer_of names litres room ≡ Err f
+  unfolding is_made number_in
+  farm_failed room size f h k e z = go (ltb 32767 (get_or litres farms 0)) (eqb size 0) refl refl z
     where
       l : ℕ
       l = get_or litres farms 0
 
-      failure : (f : ℕ) → first_failure (names_of (drop from names)) (l ∷ drop (farms + 1) litres) ≡ some f → answer_of names litres room ≡ Answer.Failed f
-      failure f q = by_farm names litres room f (j.failures ∙ ap (first_failure (names_of (drop from names))) (there k) ∙ q)
+      failure : (n : ℕ) → first_failure (names_of (drop from names)) (l ∷ drop (farms + 1) litres) ≡ some n → answer_of names litres room ≡ Err n
+      failure n q = by_farm names litres room n (j.failures ∙ ap (first_failure (names_of (drop from names))) (there k) ∙ q)
 
-      go : (t u : Bool) → ltb 32767 l ≡ t → eqb size 0 ≡ u → (◌≡◌ {A = ℕ} (whether t (λ _. 24) (λ _. whether u (λ _. 25) (λ _. 0))) 0 → ⊥)
-          → answer_of names litres room ≡ Answer.Failed (whether t (λ _. 24) (λ _. whether u (λ _. 25) (λ _. 0)))
-      go true u p q z = failure 24 (litres_failure (drop from names) _ _ _ (splits (drop from names)) (some_left h) (ltb-true _ _ p))
-      go false true p q z = failure 25 (name_failure_lem (drop from names) _ _ _ (splits (drop from names)) (some_left h) (ltb-false _ _ p) (sym e ∙ eqb-true _ _ q))
-      go false false p q z = absurd (z refl)
+      go : (t u : Bool) → ltb 32767 l ≡ t → eqb size 0 ≡ u → ◌≡◌ {A = Result (Unit {0}) ℕ} (whether t (λ _. Err 24) (λ _. whether u (λ _. Err 25) (λ _. Ok tt))) (Err f) → answer_of names litres room ≡ Err f
+      go true u p q z = failure 24 (litres_failure (drop from names) _ _ _ (splits (drop from names)) (some_left h) (ltb-true _ _ p)) ∙ ap (λ n. Err n) (ap number_in z)
+      go false true p q z =
+          failure 25 (name_failure_lem (drop from names) _ _ _ (splits (drop from names)) (some_left h) (ltb-false _ _ p) (sym e ∙ eqb-true _ _ q)) ∙ ap (λ n. Err n) (ap number_in z)
+      go false false p q z = absurd (false≢true (sym (ap is_made z)))
 
   pub judging_on : (size : ℕ) → farms < length litres → get_or litres farms 0 ≤ 32767 → Named names from size → Judging names litres (from + (size + 1)) (farms + 1)
   judging_on size k b n =
@@ -127,13 +150,13 @@ module _ {names litres : List ℕ} {from farms : ℕ} (j : Judging names litres 
   no_litres : length litres ≤ farms → first_failure (names_of names) litres ≡ none
   no_litres h = j.failures ∙ ap (first_failure (names_of (drop from names))) (drop_of_length-le litres h) ∙ unpaired (names_of (drop from names))
 
-  pub names_left : (room : ℕ) → from < length names → length litres ≤ farms → answer_of names litres room ≡ Answer.Failed 26
+  pub names_left : (room : ℕ) → from < length names → length litres ≤ farms → answer_of names litres room ≡ Err 26
   names_left room h k =
       let c = j.count in
       let s = some_names (drop from names) (names_of (drop from names)) (splits (drop from names)) (some_left h) in
       by_lists names litres room (no_litres k) (λ e. omega (arith, c, s, k, e))
 
-  pub litres_left : (room : ℕ) → length names ≤ from → farms < length litres → answer_of names litres room ≡ Answer.Failed 26
+  pub litres_left : (room : ℕ) → length names ≤ from → farms < length litres → answer_of names litres room ≡ Err 26
   litres_left room h k =
       let c = j.count in
       let o = ap length (names_over h) in
@@ -148,14 +171,6 @@ module _ {names litres : List ℕ} {from farms : ℕ} (j : Judging names litres 
       by_room names litres room (no_names h) (omega (arith, c, o, k, f)) ∙ ap (λ n. fitted_of n room) e
 
 -- ---- What a page that is made says of its farms
-
-is_made : Answer → Bool
-is_made (Answer.Made n) = true
-is_made (Answer.Failed f) = false
-
-length_in : Answer → ℕ
-length_in (Answer.Made n) = n
-length_in (Answer.Failed f) = 0
 
 pub record Fit (names litres : List ℕ) (room n : ℕ) : Type 0 where
   pub unfailing : failure_of names litres room ≡ none
@@ -184,11 +199,11 @@ module _ (names litres : List ℕ) (room n : ℕ) where
           let w = page_length names litres d (omega (arith, m, l)) in
           record { unfailing = e; farms = d; paired = m; limit = omega (arith, m, l); size = s; inside = omega (arith, m, i, w) }
 
-  pub fit : answer_of names litres room ≡ Answer.Made n → Fit names litres room n
+  pub fit : answer_of names litres room ≡ Ok n → Fit names litres room n
   unfolding answer_of is_made length_in
   fit e = go (failure_of names litres room) refl e
     where
-      go : (o : Option ℕ) → failure_of names litres room ≡ o → given o Answer.Failed (λ _. Answer.Made (length (page_of names litres))) ≡ Answer.Made n → Fit names litres room n
+      go : (o : Option ℕ) → failure_of names litres room ≡ o → given o Err (λ _. Ok (length (page_of names litres))) ≡ Ok n → Fit names litres room n
       go (some f) p q = absurd (false≢true (ap is_made q))
       go none p q = unfailed p (sym (ap length_in q))
 
@@ -200,16 +215,24 @@ lines_written {names} {litres} out f w =
     let i = f.inside in
     w ∙ sets-eq (page_of names litres) out 0 (omega (arith, i)) ∙ rw (zero-add, f.unfailing)
 
-pub none_written : (names litres out : List ℕ) (f : ℕ) → answer_of names litres (length out) ≡ Answer.Failed f → out ≡ output_after names litres out
+pub none_written : (names litres out : List ℕ) (f : ℕ) → answer_of names litres (length out) ≡ Err f → out ≡ output_after names litres out
 unfolding answer_of output_after is_made
 none_written names litres out f e = go (failure_of names litres (length out)) e
   where
     page : List ℕ
     page = page_of names litres
 
-    go : (o : Option ℕ) → given o Answer.Failed (λ _. Answer.Made (length page)) ≡ Answer.Failed f → out ≡ given o (λ _. out) (λ _. page ++ drop (length page) out)
+    go : (o : Option ℕ) → given o Err (λ _. Ok (length page)) ≡ Err f → out ≡ given o (λ _. out) (λ _. page ++ drop (length page) out)
     go (some g) q = refl
     go none q = absurd (false≢true (sym (ap is_made q)))
+
+pub page_written : {a b : Text} (names litres out : List ℕ) (r : Result ℕ Failure) → is_ok r ≡ true → numbered r ≡ answer_of names litres (length out)
+    → a.len ≡ 0 → a.out.now ≡ out → length out ≤ largest → Adds a b (page_of names litres) → b.out.now ≡ output_after names litres out
+page_written names litres out (Err f) o e z k l p = absurd (false≢true o)
+page_written {a} {b} names litres out (Ok n) o e z k l p =
+    let f = fit names litres (length out) n (sym e) in
+    let w = stands a b (page_of names litres) (omega (arith, z)) (let m = ap length k in omega (arith, m, l)) p in
+    lines_written out f (w.written ∙ ap (λ o. sets o a.len (page_of names litres)) k ∙ ap (λ n. sets out n (page_of names litres)) z)
 
 -- ---- The numbers of the failures
 
@@ -238,15 +261,11 @@ failure_number names litres room =
     go none true h = tt
     go none false h = (omega arith, omega arith)
 
-number_in : Answer → ℕ
-number_in (Answer.Made n) = 0
-number_in (Answer.Failed f) = f
-
-pub answer_number : (names litres : List ℕ) (room f : ℕ) → answer_of names litres room ≡ Answer.Failed f → (24 ≤ f) × (f ≤ 26)
+pub answer_number : (names litres : List ℕ) (room f : ℕ) → answer_of names litres room ≡ Err f → (24 ≤ f) × (f ≤ 26)
 unfolding answer_of is_made number_in
 answer_number names litres room f e = go (failure_of names litres room) (failure_number names litres room) e
   where
-    go : (o : Option ℕ) → Numbered o → given o Answer.Failed (λ _. Answer.Made (length (page_of names litres))) ≡ Answer.Failed f → (24 ≤ f) × (f ≤ 26)
+    go : (o : Option ℕ) → Numbered o → given o Err (λ _. Ok (length (page_of names litres))) ≡ Err f → (24 ≤ f) × (f ≤ 26)
     go (some g) h q = rw (ap number_in q) at h
     go none h q = absurd (false≢true (sym (ap is_made q)))
 

@@ -12,7 +12,9 @@ use Rattle.digits.specs.Digits.{left_in, shown}
 use Rattle.page.specs.Names.{names_of}
 use Rattle.page.specs.Page.{page_of, output_after, PageCalled}
 use Rattle.page.specs.PageLaws.{litres_shown, total_shown, plus, PageMade}
-use Rattle.page.specs.declared.Answer.{Answer}
+use Rattle.std.specs.Prelude.{Ok, Err}
+use Rattle.page.specs.Failures.{number_of}
+use Rattle.page.specs.declared.failure.Failure.{Failure}
 use Rattle.page.proofs.LineLaws.{line_name, line_litres, line_total}
 use Rattle.page.proofs.Rows.{Row, row}
 use Rattle.page.proofs.Judging.{Fit, fit, page_length, none_written, answer_number}
@@ -25,7 +27,7 @@ sum_next (l ∷ ls) zero h = omega arith
 sum_next (l ∷ ls) (suc i) h =
     ap (λ m. sum (take m (l ∷ ls))) (suc-add i 1) ∙ ap (λ n. l + n) (sum_next ls i (omega (arith, h))) ∙ sym (add_assoc l (sum (take i ls)) (get_or ls i 0))
 
-module _ (names litres output : List ℕ) (n : ℕ) (output' : List ℕ) (called : PageCalled names litres output (Answer.Made n) output') where
+module _ (names litres output : List ℕ) (n : ℕ) (output' : List ℕ) (called : PageCalled names litres output (Ok n) output') where
   abbrev page : List ℕ
   page = page_of names litres
 
@@ -70,8 +72,8 @@ module _ (names litres output : List ℕ) (n : ℕ) (output' : List ℕ) (called
             total (length litres - 1) k ∙ ap (λ ls. some (sum ls)) (take_all _ litres m);
       }
 
-pub failed : (names litres output : List ℕ) (f : ℕ) (output' : List ℕ) → PageCalled names litres output (Answer.Failed f) output' → (24 ≤ f) × (f ≤ 26) × (output' ≡ output)
+pub failed : (names litres output : List ℕ) (f : Failure) (output' : List ℕ) → PageCalled names litres output (Err f) output' → (24 ≤ number_of f) × (number_of f ≤ 26) × (output' ≡ output)
 failed names litres output f output' called =
-    let kept = called.written ∙ sym (none_written names litres output f (sym called.answered)) in
-    let number = answer_number names litres (length output) f (sym called.answered) in
+    let kept = called.written ∙ sym (none_written names litres output (number_of f) (sym called.answered)) in
+    let number = answer_number names litres (length output) (number_of f) (sym called.answered) in
     (number.0, number.1, kept)

@@ -1,5 +1,5 @@
 -- Worked examples, decided by computation.
-use Rattle.std.specs.Prelude.{ℕ, zero, suc, ◌≡◌, refl, Bool, true, false, List, [], ◌∷◌, ◌++◌, map, replicate}
+use Rattle.std.specs.Prelude.{Result, Ok, Err, ℕ, zero, suc, ◌≡◌, refl, Bool, true, false, List, [], ◌∷◌, ◌++◌, map, replicate}
 use Prim.Native.String.{String}
 use Rattle.std.proofs.Math.Option.{Option, none, some}
 use Rattle.prelude.specs.Text.{bytes, all}
@@ -8,7 +8,6 @@ use Rattle.digits.specs.Digits.{decimal_by, left_in, right_in, digits_from, show
 use Rattle.page.specs.Names.{Name, names_of, good_name}
 use Rattle.page.specs.Page.{farm_line, lines_from, page_of, first_failure, failure_of, answer_of, output_after}
 use Rattle.page.specs.PageLaws.{name_shown, litres_shown, total_shown}
-use Rattle.page.specs.declared.Answer.{Answer}
 
 -- ---- The page of three farms (B1 to B3)
 
@@ -76,38 +75,38 @@ unended_name = refl
 
 -- what is handed in, and what is answered: the length or the number
 abbrev Case : Type 0
-Case = String × List ℕ × ℕ × Answer
+Case = String × List ℕ × ℕ × Result ℕ ℕ
 
-answered : Case → Answer
+answered : Case → Result ℕ ℕ
 answered c = answer_of (bytes c.0) c.1 c.2
 
 abbrev cases : List Case
 cases =
     -- nothing handed in makes an empty page, into nothing
-    ("", [], 0, Answer.Made 0)
-    ∷ ("A\n", 0 ∷ [], 31, Answer.Made 31)
+    ("", [], 0, Ok 0)
+    ∷ ("A\n", 0 ∷ [], 31, Ok 31)
     -- the limits of the litres and of the output
-    ∷ ("A\n", 32767 ∷ [], 32, Answer.Made 31)
-    ∷ ("A\n", 32768 ∷ [], 31, Answer.Failed 24)
-    ∷ ("A\n", 65535 ∷ [], 31, Answer.Failed 24)
-    ∷ ("A\n", 1 ∷ [], 30, Answer.Failed 26)
-    ∷ ("A\nB\n", 1 ∷ 1 ∷ [], 61, Answer.Failed 26)
-    ∷ ("A\nB\n", 1 ∷ 1 ∷ [], 62, Answer.Made 62)
+    ∷ ("A\n", 32767 ∷ [], 32, Ok 31)
+    ∷ ("A\n", 32768 ∷ [], 31, Err 24)
+    ∷ ("A\n", 65535 ∷ [], 31, Err 24)
+    ∷ ("A\n", 1 ∷ [], 30, Err 26)
+    ∷ ("A\nB\n", 1 ∷ 1 ∷ [], 61, Err 26)
+    ∷ ("A\nB\n", 1 ∷ 1 ∷ [], 62, Ok 62)
     -- an unended name, an empty one
-    ∷ ("A", 1 ∷ [], 31, Answer.Failed 25)
-    ∷ ("A\n\n", 1 ∷ 1 ∷ [], 62, Answer.Failed 25)
+    ∷ ("A", 1 ∷ [], 31, Err 25)
+    ∷ ("A\n\n", 1 ∷ 1 ∷ [], 62, Err 25)
     -- unequal lists; what has no partner is not judged
-    ∷ ("A\nB\n", 1 ∷ [], 62, Answer.Failed 26)
-    ∷ ("A\n\n", 1 ∷ [], 62, Answer.Failed 26)
-    ∷ ("A\nB", 1 ∷ [], 62, Answer.Failed 26)
-    ∷ ("A\n", 1 ∷ 40000 ∷ [], 62, Answer.Failed 26)
-    ∷ ("", 40000 ∷ [], 62, Answer.Failed 26)
+    ∷ ("A\nB\n", 1 ∷ [], 62, Err 26)
+    ∷ ("A\n\n", 1 ∷ [], 62, Err 26)
+    ∷ ("A\nB", 1 ∷ [], 62, Err 26)
+    ∷ ("A\n", 1 ∷ 40000 ∷ [], 62, Err 26)
+    ∷ ("", 40000 ∷ [], 62, Err 26)
     -- in one farm the litres come first; of two farms the first; the lists come last
-    ∷ ("\n", 40000 ∷ [], 31, Answer.Failed 24)
-    ∷ ("\nB\n", 1 ∷ 40000 ∷ [], 62, Answer.Failed 25)
-    ∷ ("A\n\n", 40000 ∷ 1 ∷ [], 62, Answer.Failed 24)
-    ∷ ("A\n\n", 1 ∷ 1 ∷ [], 0, Answer.Failed 25)
-    ∷ ("A\nB\n", 1 ∷ 40000 ∷ 1 ∷ [], 0, Answer.Failed 24)
+    ∷ ("\n", 40000 ∷ [], 31, Err 24)
+    ∷ ("\nB\n", 1 ∷ 40000 ∷ [], 62, Err 25)
+    ∷ ("A\n\n", 40000 ∷ 1 ∷ [], 62, Err 24)
+    ∷ ("A\n\n", 1 ∷ 1 ∷ [], 0, Err 25)
+    ∷ ("A\nB\n", 1 ∷ 40000 ∷ 1 ∷ [], 0, Err 24)
     ∷ []
 
 every_case : map answered cases ≡ map (λ c. c.3) cases

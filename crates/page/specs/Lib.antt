@@ -1,5 +1,6 @@
 -- The collection page.
 pub mod Names
+pub mod Failures
 pub mod Page
 pub mod PageLaws
 pub mod Readings

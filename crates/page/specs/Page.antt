@@ -1,10 +1,11 @@
 -- The page, and when there is none.
-use Rattle.std.specs.Prelude.{ℕ, ◌+◌, ◌*◌, ◌≡◌, ◌&&◌, List, [], ◌∷◌, ◌++◌, eqb, leb, ltb, length, drop}
+use Rattle.std.specs.Prelude.{Result, Ok, Err, ℕ, ◌+◌, ◌*◌, ◌≡◌, ◌&&◌, List, [], ◌∷◌, ◌++◌, eqb, leb, ltb, length, drop}
 use Rattle.std.proofs.Math.Option.{Option, none, some}
 use Rattle.prelude.specs.Choice.{whether, given}
 use Rattle.digits.specs.Digits.{newline, left_in, right_in}
 use Rattle.page.specs.Names.{Name, names_of, good_name}
-use Rattle.page.specs.declared.Answer.{Answer}
+use Rattle.page.specs.Failures.{numbered}
+use Rattle.page.specs.declared.failure.Failure.{Failure}
 
 -- ---- The lines
 
@@ -52,8 +53,8 @@ failure_of names litres room = given (first_failure (names_of names) litres) som
 -- ---- What comes of a call
 
 -- the values of each case of the answer: the page's length, or the failure's number (B5, C5)
-unfoldable pub answer_of : List ℕ → List ℕ → ℕ → Answer
-answer_of names litres room = given (failure_of names litres room) Answer.Failed (λ _. Answer.Made (length (page_of names litres)))
+unfoldable pub answer_of : List ℕ → List ℕ → ℕ → Result ℕ ℕ
+answer_of names litres room = given (failure_of names litres room) Err (λ _. Ok (length (page_of names litres)))
 
 -- the page and what stood behind it, or the output as it was (B5, demand 1g)
 unfoldable pub output_after : List ℕ → List ℕ → List ℕ → List ℕ
@@ -62,6 +63,6 @@ output_after names litres output =
     page_of names litres ++ drop (length (page_of names litres)) output
 
 -- A CALL OF `page` (demand 1f, 2d)
-pub record PageCalled (names litres output : List ℕ) (r : Answer) (output' : List ℕ) : Type 0 where
-  pub answered : r ≡ answer_of names litres (length output)
+pub record PageCalled (names litres output : List ℕ) (r : Result ℕ Failure) (output' : List ℕ) : Type 0 where
+  pub answered : numbered r ≡ answer_of names litres (length output)
   pub written : output' ≡ output_after names litres output

@@ -1,12 +1,13 @@
 -- What holds of every call of `page`: what a page shows, read from its bytes, and what a failure leaves.
-use Rattle.std.specs.Prelude.{ℕ, ◌+◌, ◌-◌, ◌*◌, ◌≤◌, ◌<◌, ◌≡◌, false, List, [], ◌++◌, length, get_or, take, drop, replicate}
+use Rattle.std.specs.Prelude.{Ok, Err, ℕ, ◌+◌, ◌-◌, ◌*◌, ◌≤◌, ◌<◌, ◌≡◌, false, List, [], ◌++◌, length, get_or, take, drop, replicate}
 use Rattle.std.proofs.Math.Option.{Option, none, some}
 use Rattle.prelude.specs.Choice.{given}
 use Rattle.prelude.specs.Sum.{sum}
 use Rattle.digits.specs.Digits.{shown}
 use Rattle.page.specs.Names.{Name, names_of}
 use Rattle.page.specs.Page.{PageCalled}
-use Rattle.page.specs.declared.Answer.{Answer}
+use Rattle.page.specs.Failures.{number_of}
+use Rattle.page.specs.declared.failure.Failure.{Failure}
 
 -- ---- A page read back
 
@@ -55,6 +56,6 @@ pub record PageMade (names litres output : List ℕ) (n : ℕ) (output' : List �
 
 -- over calls of `page`, as a caller sees them (demand 1f)
 pub record PageLaws : Type 0 where
-  pub made : (names litres output : List ℕ) (n : ℕ) (output' : List ℕ) → PageCalled names litres output (Answer.Made n) output' → PageMade names litres output n output'
+  pub made : (names litres output : List ℕ) (n : ℕ) (output' : List ℕ) → PageCalled names litres output (Ok n) output' → PageMade names litres output n output'
   -- one that fails has one of its three numbers, and the output is as it was (demand 1g)
-  pub failed : (names litres output : List ℕ) (f : ℕ) (output' : List ℕ) → PageCalled names litres output (Answer.Failed f) output' → (24 ≤ f) × (f ≤ 26) × (output' ≡ output)
+  pub failed : (names litres output : List ℕ) (f : Failure) (output' : List ℕ) → PageCalled names litres output (Err f) output' → (24 ≤ number_of f) × (number_of f ≤ 26) × (output' ≡ output)

@@ -1,24 +1,23 @@
 -- What the code's functions hand to each other; no rule rests on it.
-use Rattle.std.specs.Prelude.{ℕ, ◌*◌, ◌≤◌, ◌≡◌, List, [], ◌∷◌, true, ◌&&◌, eqb, leb, ltb, length}
+use Rattle.std.specs.Prelude.{Result, Ok, Err, ℕ, ◌*◌, ◌≤◌, ◌≡◌, List, [], ◌∷◌, true, ◌&&◌, eqb, leb, ltb, length}
 use Rattle.prelude.specs.Choice.{whether}
 use Rattle.page.specs.Names.{Name, good_name}
-use Rattle.page.specs.declared.Answer.{Answer}
 
 -- the length of the first name, or 0 if it is not as it should be
 abbrev pub length_of : List Name → ℕ
 length_of [] = 0
 length_of (n ∷ ns) = whether (good_name n) (λ _. length n.text) (λ _. 0)
 
--- what is wrong with a farm, by its litres and that length; 0 if nothing is
-abbrev pub failure_at : ℕ → ℕ → ℕ
-failure_at litres size =
-    whether (ltb 32767 litres) (λ _. 24) λ _.
-    whether (eqb size 0) (λ _. 25) λ _.
-    0
+-- what is wrong with a farm, by its litres and that length
+abbrev pub farm_of : ℕ → ℕ → Result (Unit {0}) ℕ
+farm_of litres size =
+    whether (ltb 32767 litres) (λ _. Err 24) λ _.
+    whether (eqb size 0) (λ _. Err 25) λ _.
+    Ok tt
 
 -- the answer for so many farms that have nothing wrong
-abbrev pub fitted_of : ℕ → ℕ → Answer
-fitted_of farms room = whether (leb farms 1000 && leb (31 * farms) room) (λ _. Answer.Made (31 * farms)) (λ _. Answer.Failed 26)
+abbrev pub fitted_of : ℕ → ℕ → Result ℕ ℕ
+fitted_of farms room = whether (leb farms 1000 && leb (31 * farms) room) (λ _. Ok (31 * farms)) (λ _. Err 26)
 
 -- farms that have nothing wrong, in lists that go equally far
 abbrev pub Sound : List Name → List ℕ → Type 0

@@ -2,14 +2,19 @@
 #![tactic(auto)]
 
 ghost use Rattle.std.specs.Prelude.{◌≡◌, ◌+◌, ◌≤◌, length, drop};
-ghost use Rattle.digits.specs.Wrote.{Wrote};
+ghost use Rattle.text.specs.Adds.{Adds};
 ghost use Rattle.page.specs.Names as spec;
 ghost use Rattle.page.specs.Names.{names_of};
+ghost use Rattle.page.specs.Failures.{numbered};
 ghost use Rattle.page.specs.Page.{farm_line, page_of, answer_of, PageCalled};
 ghost use Rattle.page.specs.PageLaws.{PageLaws};
-ghost use Rattle.page.specs.Readings.{length_of, failure_at, fitted_of, Sound};
+ghost use Rattle.page.specs.Readings.{length_of, farm_of, fitted_of, Sound};
 
-use digits::{put_byte, put_left, put_right};
+use text::Text;
+
+mod failure;
+
+pub use failure::Failure;
 
 // The bytes of a line.
 const LINE: usize = 31;
@@ -19,19 +24,6 @@ const MOST_FARMS: usize = 1000;
 const MOST_LITRES: u16 = 32767;
 
 const LONGEST_NAME: usize = 14;
-
-const BAD_LITRES: u16 = 24;
-
-const BAD_NAME: u16 = 25;
-
-const BAD_LISTS: u16 = 26;
-
-// The page's length in bytes, or the number of its failure.
-#[derive(Drop)]
-pub enum Answer {
-    Made { length: usize },
-    Failed { number: u16 },
-}
 
 fn is_printable(byte: u8) -> bool
     ensures { result ≡ spec.is_printable byte }
@@ -62,59 +54,59 @@ fn name_length(names: &[u8], from: usize) -> usize
     0
 }
 
-// What is wrong with a farm, by its litres and the length of its name; 0 if nothing is (F24, F25).
-fn farm_failure(litres: u16, size: usize) -> u16
-    ensures { result ≡ failure_at litres size }
+// What is wrong with a farm, by its litres and the length of its name (F24, F25).
+fn check_farm(litres: u16, size: usize) -> Result<(), Failure>
+    ensures { numbered result ≡ farm_of litres size }
 {
     if MOST_LITRES < litres {
-        return BAD_LITRES;
+        return Err(Failure::BadLitres);
     }
-    if size == 0 { BAD_NAME } else { 0 }
+    if size == 0 {
+        return Err(Failure::BadName);
+    }
+    Ok(())
 }
 
-// The answer for farms that have nothing wrong, by their number and the bytes of the output (F26).
-fn fitted(farms: usize, room: usize) -> Answer
-    ensures { result ≡ fitted_of farms room }
+// The page's length for farms that have nothing wrong, by their number and the bytes of the output (F26).
+fn fitted(farms: usize, room: usize) -> Result<usize, Failure>
+    ensures { numbered result ≡ fitted_of farms room }
 {
     if farms <= MOST_FARMS && LINE * farms <= room {
-        return Answer::Made {
-            length: LINE * farms,
-        };
+        return Ok(LINE * farms);
     }
-    Answer::Failed { number: BAD_LISTS }
+    Err(Failure::BadLists)
 }
 
 // First each farm that has a name and litres, then the lists (J14).
 #[tactic(auto, using(crate::proofs::FarmLaws::for_judge, crate::proofs::Judging::for_judge))]
-fn judge(names: &[u8], litres: &[u16], room: usize) -> Answer
-    ensures { result ≡ answer_of names.now litres.now room }
+fn judge(names: &[u8], litres: &[u16], room: usize) -> Result<usize, Failure>
+    ensures { numbered result ≡ answer_of names.now litres.now room }
 {
     let mut from = 0;
-    let mut farms = 0;
-    while from < names.len() && farms < litres.len() {
-        let size = name_length(names, from);
-        let failure = farm_failure(litres[farms], size);
-        if failure != 0 {
-            return Answer::Failed { number: failure };
+    for &delivered in litres {
+        if names.len() <= from {
+            return Err(Failure::BadLists);
         }
+        let size = name_length(names, from);
+        check_farm(delivered, size)?;
         from += size + 1;
-        farms += 1;
     }
-    if from < names.len() || farms < litres.len() {
-        return Answer::Failed { number: BAD_LISTS };
+    if from < names.len() {
+        Err(Failure::BadLists)
+    } else {
+        fitted(litres.len(), room)
     }
-    fitted(farms, room)
 }
 
-fn put_line(out: &mut [u8], at: usize, name: &[u8], litres: u16, total: usize) -> usize
-    ensures { Wrote out.old out.new at result (farm_line name.now litres total) }
+fn put_line(text: &mut Text<'_>, name: &[u8], litres: u16, total: usize)
+    ensures { Adds text.old text.new (farm_line name.now litres total) }
 {
-    let one = put_left(out, at, 14, name);
-    let two = put_byte(out, one, b' ');
-    let three = put_right(out, two, 6, litres as usize);
-    let four = put_byte(out, three, b' ');
-    let five = put_right(out, four, 8, total);
-    put_byte(out, five, b'\n')
+    text.left(14, name);
+    text.put(b" ");
+    text.right(6, litres as usize);
+    text.put(b" ");
+    text.right(8, total);
+    text.put(b"\n");
 }
 
 // The total with a farm's litres.
@@ -126,31 +118,29 @@ fn carried(total: usize, litres: u16) -> usize
 }
 
 // The lines of farms that have nothing wrong.
-fn put_lines(out: &mut [u8], names: &[u8], litres: &[u16]) -> usize
+fn put_lines(text: &mut Text<'_>, names: &[u8], litres: &[u16])
     requires { Sound (names_of names.now) litres.now × (length litres.now ≤ 1000) }
-    ensures { Wrote out.old out.new 0 result (page_of names.now litres.now) }
+    ensures { Adds text.old text.new (page_of names.now litres.now) }
 {
-    let mut at = 0;
     let mut from = 0;
     let mut total = 0;
-    for i in 0..litres.len() {
+    for &delivered in litres {
         let end = from + name_length(names, from);
-        let delivered = litres[i];
         total = carried(total, delivered);
-        at = put_line(out, at, &names[from..end], delivered, total);
+        put_line(text, &names[from..end], delivered, total);
         from = end + 1;
     }
-    at
 }
 
-// Makes the page at the start of the output; where it fails, the output stays as it was (B5).
+// Makes the page at the start of the output, and answers its length; where it fails, the output stays as it was (B5).
 #[tactic(auto, using(crate::proofs::Judging::for_page))]
-pub fn page(names: &[u8], litres: &[u16], output: &mut [u8]) -> Answer
+pub fn page(names: &[u8], litres: &[u16], output: &mut [u8]) -> Result<usize, Failure>
     ensures { PageCalled names.now litres.now output.old result output.new }
 {
     let answer = judge(names, litres, output.len());
-    if let Answer::Made { length: _ } = answer {
-        put_lines(output, names, litres);
+    let made = answer.is_ok();
+    if made {
+        put_lines(&mut Text::new(output), names, litres);
     }
     answer
 }

@@ -3,7 +3,7 @@
 #![tactic(auto)]
 
 use case_input::{parse_number, part_end};
-use compiler::{Answer, SCRATCH_WORDS};
+use compiler::SCRATCH_WORDS;
 use effect::{Registers, Switches};
 use listing_lines::LONGEST;
 use machine::{Machine, Outcome, Request};
@@ -109,13 +109,8 @@ fn run_source(rt: &impl Print, source: &[u8]) {
     let mut image = [0u16; 16384];
     let mut scratch = [0u16; SCRATCH_WORDS];
     let answer = compiler::compile(source, &mut image, &mut scratch);
-    if let Answer::Accepted {
-        entry,
-        words: _,
-        globals: _,
-    } = answer
-    {
-        run(rt, &mut image, entry);
+    if let Ok(program) = answer {
+        run(rt, &mut image, program.entry);
     }
 }
 

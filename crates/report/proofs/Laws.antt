@@ -11,11 +11,12 @@ use borrow.Author.Tests.{eq-eqb, ne_eqb, lt-ltb, le-leb}
 use lib.Dec.{eqb}
 use lib.ListN.{length, get_or, take}
 use lib.Seq.{take-suc}
-use types.Run.{OneOf, miss}
-use denote.Enum.Declared.{tag_of}
 use Rattle.prelude.specs.Choice.{whether}
 use Rattle.prelude.specs.Text.{bytes}
 use Rattle.digits.specs.Digits.{decimal, newline}
+use Rattle.text.specs.Adds.{Adds}
+use Rattle.text.specs.declared.Text.{Text}
+use Rattle.text.proofs.Laws.{Left, goes_on, is_whole}
 use Rattle.symbols.specs.Packing.{before_trimmed, trimmed}
 use Rattle.tree.specs.Tree.{Item, Declaration, Program}
 use Rattle.tree.specs.Symbols as symbols
@@ -24,22 +25,17 @@ use Rattle.layout.specs.Allocation.{allocated}
 use Rattle.layout.specs.Map.{declared, finished}
 use Rattle.grammar.specs.Parse.Got.{got}
 use Rattle.parser.specs.declared.Part.{Part}
-use Rattle.emitter.specs.declared.Output.{Output}
+use Rattle.parser.specs.declared.Failure.{Failure}
+use Rattle.std.specs.Prelude.{Result, Ok, Err}
 use Rattle.declarations.specs.declared.SectorEnds.{SectorEnds}
-use Rattle.declarations.specs.declared.Allocation.{Allocation}
+use Rattle.declarations.specs.declared.Reading.{Reading}
 use Rattle.declarations.specs.Declares.{Declares}
 use Rattle.declarations.specs.Scopes.{table_words}
 use Rattle.declarations.specs.Procedures.{program_in, program_on, ProgramEmitted}
-use Rattle.compiler.proofs.ReadingLaws.{again, on_table}
+use Rattle.compiler.proofs.ReadingLaws.{on_table}
+use Rattle.parser.proofs.ReadLaws.{never, came, failed_as}
+use Rattle.report.specs.Shown.{ProgramRead}
 use Rattle.symbols.specs.Table.{row_at, row_of, entries_of, live_names}
-use Rattle.symbols.specs.Trees.{tree_id, tree_symbol}
-use Rattle.symbols.specs.declared.Id.{Id}
-use Rattle.symbols.specs.declared.Symbol.{Symbol}
-use Rattle.symbols.specs.contracts.Id as id
-use Rattle.symbols.specs.contracts.Symbol as symbol
-use Rattle.machine.specs.declared.Outcome.{Outcome}
-use Rattle.machine.specs.contracts.Outcome as outcome
-use Rattle.report.specs.Shown.{stops_by}
 use Rattle.report.specs.Globals.{element_head, element_end, element_text, elements_text, array_text, id_text, symbol_text, size_of, next_array, names_text, declaration_text, globals_text}
 
 -- ---- Bytes without the zeros at their end
@@ -72,43 +68,6 @@ pub none_taken : (bs : List ℕ) (n : ℕ) → n ≤ 0 → trimmed (take n bs) �
 unfolding trimmed
 none_taken bs n h e = let z : n ≡ 0 = omega (arith, h) in ap (λ k. trimmed (take k bs)) (sym z) ∙ e
 
--- ---- What has no text
-
-abbrev Others : List ℕ → Symbol → Type 0
-Others keys s = OneOf keys (tag_of symbol.the_type s)
-
-pub no_size : (s : Symbol) → Others (0 ∷ 1 ∷ 2 ∷ 4 ∷ 5 ∷ []) s → 0 ≡ size_of (tree_symbol s)
-unfolding size_of tree_symbol
-no_size (Symbol.Integer i) h = refl
-no_size (Symbol.Constant i v) h = refl
-no_size (Symbol.Compconstant v) h = refl
-no_size (Symbol.Array a) h = absurd (miss (0 ∷ 1 ∷ 2 ∷ 4 ∷ 5 ∷ []) 3 tt h)
-no_size (Symbol.Procedure p accumulator) h = refl
-no_size Symbol.Unknown h = refl
-
-module _ (memory name : List ℕ) where
-  pub no_symbol : (origin : ℕ) (s : Symbol) → Others (1 ∷ 2 ∷ 4 ∷ 5 ∷ []) s → [] ≡ symbol_text memory name origin (tree_symbol s)
-  unfolding symbol_text tree_symbol
-  no_symbol origin (Symbol.Integer i) h = absurd (miss (1 ∷ 2 ∷ 4 ∷ 5 ∷ []) 0 tt h)
-  no_symbol origin (Symbol.Constant i v) h = refl
-  no_symbol origin (Symbol.Compconstant v) h = refl
-  no_symbol origin (Symbol.Array a) h = absurd (miss (1 ∷ 2 ∷ 4 ∷ 5 ∷ []) 3 tt h)
-  no_symbol origin (Symbol.Procedure p accumulator) h = refl
-  no_symbol origin Symbol.Unknown h = refl
-
-  pub no_id : (i : Id) → OneOf (0 ∷ 2 ∷ []) (tag_of id.the_type i) → [] ≡ id_text memory name (tree_id i)
-  unfolding id_text tree_id
-  no_id Id.X h = refl
-  no_id (Id.Global n) h = absurd (miss (0 ∷ 2 ∷ []) 1 tt h)
-  no_id (Id.Local p n) h = refl
-
--- only a run that halted may have stopped at a subscript
-pub no_stop : (checked : Bool) (end : ℕ) (o : Outcome) (at : ℕ) → OneOf (1 ∷ 2 ∷ []) (tag_of outcome.the_type o) → false ≡ stops_by checked end o at
-unfolding stops_by
-no_stop checked end Outcome.Halted at h = absurd (miss (1 ∷ 2 ∷ []) 0 tt h)
-no_stop checked end Outcome.Spent at h = refl
-no_stop checked end (Outcome.Failed n) at h = refl
-
 -- ---- Elements
 
 pub row_starts : (name : List ℕ) (column k : ℕ) → column ≡ 0 → name ++ (bytes "[-" ++ (decimal k ++ bytes "] = ")) ≡ element_head name column k
@@ -135,12 +94,12 @@ module _ (column k : ℕ) where
   row_open e l = rw (ne_eqb _ _ e, l)
 
 module _ (memory name : List ℕ) (size origin k : ℕ) where
-  pub next_element : {column word : ℕ} → 0 < k → column ≡ (size - k) % 10 → word ≡ get_or memory (origin - k) 0
+  next_element : {column word : ℕ} → 0 < k → column ≡ (size - k) % 10 → word ≡ get_or memory (origin - k) 0
       → elements_text memory name size origin k ≡ element_text name column k word ++ elements_text memory name size origin (k - 1)
   unfolding elements_text
   next_element h e w = let n : k ≡ suc (k - 1) = omega (arith, h) in ap (elements_text memory name size origin) n ∙ rw (e, w, ← n)
 
-  pub no_element : k ≤ 0 → elements_text memory name size origin k ≡ []
+  no_element : k ≤ 0 → elements_text memory name size origin k ≡ []
   unfolding elements_text
   no_element h = let n : k ≡ 0 = omega (arith, h) in ap (elements_text memory name size origin) n
 
@@ -151,6 +110,19 @@ module _ (memory name : List ℕ) (size origin k : ℕ) where
   pub elements : (k ≡ 0 → ⊥) → elements_text memory name k origin k ≡ array_text memory name k origin
   unfolding array_text
   elements e = rw (ne_eqb _ _ e)
+
+-- what is left to be written of an array, before the element at a place
+module _ (memory name : List ℕ) (size origin : ℕ) where
+  pub next_place : {a b c : Text} {all : List ℕ} (place : ℕ) {word : ℕ} → place < size → word ≡ get_or memory (origin - (size - place)) 0
+      → Left a b (elements_text memory name size origin (size - place)) all → Adds b c (element_text name (place % 10) (size - place) word)
+      → Left a c (elements_text memory name size origin (size - (place + 1))) all
+  next_place place {word} h w p q =
+      let e : size - place - 1 ≡ size - (place + 1) = omega arith in
+      let column : place % 10 ≡ (size - (size - place)) % 10 = ap (λ n. n % 10) (omega (arith, h)) in
+      goes_on _ _ (next_element memory name size origin (size - place) (omega (arith, h)) column w ∙ ap (λ n. element_text name (place % 10) (size - place) word ++ elements_text memory name size origin n) e) p q
+
+  pub last_place : {a b : Text} {all : List ℕ} (place : ℕ) → size ≤ place → Left a b (elements_text memory name size origin (size - place)) all → Adds a b all
+  last_place place h p = is_whole (no_element memory name size origin (size - place) (omega (arith, h))) p
 
 -- ---- Names, in order of declaration
 
@@ -170,15 +142,26 @@ module _ (memory table : List ℕ) (i : ℕ) {name : List ℕ} {symbol : symbols
 
 -- ---- The program that was read
 
-pub program_read : (source table : List ℕ) {flag : Bool} {s : Allocation} {output : Output} {plan : SectorEnds} {image image' table' : List ℕ} {part : Part}
-    → Declares (ProgramEmitted plan image flag s output table' image') part (program_on source table) → table_words ≤ length table → length table' ≡ length table
-    → (p : Program) (n : ℕ) → program_in source ≡ got p n → (7 * s.names ≤ length table') × (entries_of s.names table' ≡ (allocated p.declarations).scope.names) × (flag ≡ p.checked) × (output.next ≡ (finished p).next)
-unfolding live_names finished declared
-program_read source table {s} {table' = table'} r room k p n e =
-    let done = again p n (on_table source table room ∙ e) r in
-    let few = done.sound.few in
-    let inside : s.names ≤ length table' / 7 = omega (arith, room, k, few) in
-    (omega (arith, inside), rw (le-leb _ _ inside) at (ap (λ st. st.scope.names) done.allocation), done.checked, done.next)
+module _ (source table : List ℕ) {plan : SectorEnds} {image image' table' : List ℕ} {r : Result (Part Reading) Failure}
+    (h : Declares (λ q x. ProgramEmitted plan image x.checked x.allocation x.end table' image' q) r (program_on source table)) (room : table_words ≤ length table) where
+  pub program_read : {part : Part Reading} → r ≡ Ok part → length table' ≡ length table
+      → ProgramRead source (record { names = part.value.allocation.names; checked = part.value.checked; end = part.value.end.next }) table'
+  unfolding live_names finished declared
+  program_read {part} q k =
+      let one = came h q in
+      let done = one.holds in
+      let few = done.sound.few in
+      let inside : part.value.allocation.names ≤ length table' / 7 = omega (arith, room, k, few) in
+      let its : (p : Program) (n : ℕ) → program_in source ≡ got p n → one.tree ≡ p = λ p n e. let a : got one.tree part.next ≡ got p n = sym one.is ∙ on_table source table room ∙ e in cc in
+      record {
+        inside = omega (arith, inside);
+        names = λ p n e. rw (← its p n e) (rw (le-leb _ _ inside) at (ap (λ st. st.scope.names) done.allocation));
+        checked = λ p n e. rw (← its p n e) done.checked;
+        end = λ p n e. rw (← its p n e) done.next;
+      }
+
+  pub no_program : {f : Failure} → r ≡ Err f → (p : Program) (n : ℕ) → program_in source ≡ got p n → ⊥
+  no_program q p n e = never (on_table source table room ∙ e) (failed_as h q)
 
 -- ---- The names as declarations
 
@@ -217,7 +200,7 @@ module _ (memory : List ℕ) where
 
 pub ruleset for_put_array = (no_elements, elements)
 
-pub ruleset for_put_elements = (next_element, no_element)
+pub ruleset for_put_elements = (last_place)
 
 pub ruleset for_put_end = (row_ends, row_open)
 

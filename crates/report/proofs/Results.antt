@@ -20,22 +20,29 @@ use Rattle.machine.specs.declared.Machine.{Machine}
 use Rattle.machine.specs.State.{state}
 use Rattle.turns.specs.declared.Turned.{Turned}
 use Rattle.turns.specs.Turns.{start_machine, turns_def, Answers}
-use Rattle.digits.specs.Wrote.{Wrote}
+use Rattle.text.specs.Wrote.{largest, Wrote}
+use Rattle.text.specs.Adds.{Adds}
+use Rattle.text.specs.declared.Text.{Text}
+use Rattle.text.proofs.Laws.{stands}
 use Rattle.failure_report.specs.Failure.{failure_text}
-use Rattle.compiler.specs.declared.Answer.{Answer}
-use Rattle.compiler.specs.Compile.{scratch_words, result_on, answer_of, image_after}
+use Rattle.std.specs.Prelude.{Ok, Err}
+use Rattle.parser.specs.declared.Failure.{Failure}
+use Rattle.parser.specs.Failures.{number_of}
+use Rattle.parser.proofs.Answers.{numbered}
+use Rattle.compiler.specs.declared.Program.{Program as Counts}
+use Rattle.compiler.specs.Compile.{Answer, failure_with, scratch_words, result_on, answer_of, image_after}
 use Rattle.compiler.proofs.ReadingLaws.{result}
 use Rattle.report.specs.Shown.{ShowsRun, start_of, shown_of, image_shown}
 
-pub accepted_is : (e : Result) {entry words globals : ℕ} → Answer.Accepted entry words globals ≡ answer_of e → (c : Compiled) × (e ≡ Result.accepted c) × (entry ≡ c.entry)
+pub accepted_is : (e : Result) {p : Counts} → Ok p ≡ answer_of e → (c : Compiled) × (e ≡ Result.accepted c) × (p.entry ≡ c.entry)
 unfolding answer_of
-accepted_is (Result.accepted c) q = (c, refl, cc)
+accepted_is (Result.accepted c) {p} q = let s : p ≡ record { entry = c.entry; words = c.words; globals = c.globals } = cc in (c, refl, ap (λ (x : Counts). x.entry) s)
 accepted_is (Result.failed n at) q = absurd (let z : ◌≡◌ {A = ℕ} 0 1 = cc in omega arith)
 
-pub failed_is : (e : Result) {number at : ℕ} → Answer.Failed number at ≡ answer_of e → e ≡ Result.failed number at
+pub failed_is : (e : Result) {f : Failure} → Err f ≡ answer_of e → e ≡ Result.failed (number_of f.cause) f.at
 unfolding answer_of
 failed_is (Result.accepted c) q = absurd (let z : ◌≡◌ {A = ℕ} 0 1 = cc in omega arith)
-failed_is (Result.failed n at) q = cc
+failed_is (Result.failed n at) {f} q = let s : f ≡ failure_with n at = cc in rw (s, numbered n)
 
 module _ (source image scratch : List ℕ) {c : Compiled} (e : result_on source image scratch ≡ Result.accepted c) where
   lent : (scratch_words ≤ length scratch) × (compile_def source ≡ Result.accepted c)
@@ -81,14 +88,18 @@ module _ (source image scratch out : List ℕ) (turns : ℕ) (switches : Switche
       let shown = wrote c.program its.0 its.1 in
       (rw e (rw (ran.0, ran.1, at_start) at shown), rw e (ran.1 ∙ ap (λ s. (turns_def turns s).state.image) at_start))
 
-  pub run_shown : {answer : Answer} {entry words globals : ℕ} {m : Machine} {t : Turned} {image' image'' out' : List ℕ} {r : ℕ} → answer ≡ answer_of Res → answer ≡ Answer.Accepted entry words globals
+  pub run_shown : {answer : Answer} {p : Counts} {entry : ℕ} {m : Machine} {t : Turned} {image' image'' out' : List ℕ} {r : ℕ} → answer ≡ answer_of Res → answer ≡ Ok p → entry ≡ p.entry
       → image' ≡ image_after Res image → m ≡ start_machine entry switches → Answers (turns_def turns (state m image')) t image'' → ShowsRun source t image'' out r out'
       → Wrote out out' 0 r (shown_of source Res turns switches) × (image'' ≡ image_shown Res turns switches image)
-  run_shown q a laid first ran wrote = let is = accepted_is Res (sym a ∙ q) in run_of is.0 is.1 is.2 laid first ran wrote
+  run_shown q a n laid first ran wrote = let is = accepted_is Res (sym a ∙ q) in run_of is.0 is.1 (n ∙ is.2) laid first ran wrote
 
-  pub failure_shown : {answer : Answer} {number at : ℕ} {image' out' : List ℕ} {r : ℕ} → answer ≡ answer_of Res → answer ≡ Answer.Failed number at → image' ≡ image_after Res image
-      → Wrote out out' 0 r (failure_text source number at) → Wrote out out' 0 r (shown_of source Res turns switches) × (image' ≡ image_shown Res turns switches image)
+  pub failure_shown : {answer : Answer} {f : Failure} {image' out' : List ℕ} {r : ℕ} → answer ≡ answer_of Res → answer ≡ Err f → image' ≡ image_after Res image
+      → Wrote out out' 0 r (failure_text source (number_of f.cause) f.at) → Wrote out out' 0 r (shown_of source Res turns switches) × (image' ≡ image_shown Res turns switches image)
   unfolding shown_of image_shown image_after
   failure_shown q a laid wrote = let is = failed_is Res (sym a ∙ q) in (rw is wrote, rw is (rw is at laid))
+
+-- in the buffer that was lent, from its start
+pub in_buffer : {a b : Text} {out out' t : List ℕ} → a.len ≡ 0 → a.out.now ≡ out → length out ≤ largest → out' ≡ b.out.now → Adds a b t → Wrote out out' 0 b.len t
+in_buffer {a} {b} {t = t} z k l o p = rw o (rw (k, z) at (stands a b t (omega (arith, z)) (let m = ap length k in omega (arith, m, l)) p))
 
 pub ruleset for_show = (accepted_is, long_enough, run_shown, failure_shown)

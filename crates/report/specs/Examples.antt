@@ -7,6 +7,7 @@ use Rattle.instruction.specs.Decode.{find_word, generic_of, shift_of, memory_of,
 use Rattle.effect.specs.declared.Switches.{Switches}
 use Rattle.effect.specs.Effects.{operate_of, unary_of}
 use Rattle.effect.specs.Skips.{skips_of}
+use Rattle.machine.specs.declared.failure.Failure.TheVariants.{UnknownWord, WrongP}
 use Rattle.machine.specs.declared.Outcome.TheVariants.{Halted, Spent, Failed}
 use Rattle.machine.specs.Address.{follow_of}
 use Rattle.machine.specs.Step.{memory_def, generic_def, step_def}
@@ -114,7 +115,7 @@ no_elements = refl
 -- ---- The end of a run (O4)
 
 outcomes :
-    map outcome_text (Halted ∷ Spent ∷ Failed 20 ∷ Failed 23 ∷ [])
+    map outcome_text (Halted ∷ Spent ∷ Failed UnknownWord ∷ Failed WrongP ∷ [])
     ≡ bytes "halted after "
     ∷ bytes "spent: not halted after "
     ∷ bytes "failed with 20, the word at P is no instruction; often a subscript left its array, after "
@@ -125,7 +126,7 @@ outcomes = refl
 
 -- a stop: halted, with `.CHECKED`, and P not behind the last HLT (O11)
 stops :
-    stops_by true 520 Halted 517 ∷ stops_by true 520 Halted 520 ∷ stops_by false 520 Halted 517 ∷ stops_by true 520 Spent 517 ∷ stops_by true 520 (Failed 20) 517 ∷ []
+    stops_by true 520 Halted 517 ∷ stops_by true 520 Halted 520 ∷ stops_by false 520 Halted 517 ∷ stops_by true 520 Spent 517 ∷ stops_by true 520 (Failed UnknownWord) 517 ∷ []
     ≡ true ∷ false ∷ false ∷ false ∷ false ∷ []
 unfolding stops_by
 stops = refl

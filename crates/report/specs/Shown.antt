@@ -2,11 +2,14 @@
 use Rattle.std.specs.Prelude.{ℕ, ◌*◌, ◌≤◌, ◌≡◌, Bool, true, false, not, ◌&&◌, List, ◌++◌, eqb, length, get_or, replicate}
 use Rattle.prelude.specs.Choice.{whether}
 use Rattle.digits.specs.Digits.{decimal, signed, newline}
-use Rattle.digits.specs.Wrote.{Wrote}
+use Rattle.text.specs.Wrote.{Wrote}
+use Rattle.text.specs.Adds.{Adds}
+use Rattle.text.specs.declared.Text.{Text}
 use Rattle.prelude.specs.Text.{bytes}
 use Rattle.effect.specs.declared.Registers.{Registers}
 use Rattle.effect.specs.declared.Switches.{Switches}
 use Rattle.machine.specs.declared.Outcome.{Outcome}
+use Rattle.machine.specs.Failure.{number_of}
 use Rattle.machine.specs.State.{State, state}
 use Rattle.machine.specs.Run.{Ran}
 use Rattle.tree.specs.Tree.{Program}
@@ -27,13 +30,13 @@ use Rattle.report.specs.Globals.{globals_text}
 unfoldable pub outcome_text : Outcome → List ℕ
 outcome_text Outcome.Halted = bytes "halted after "
 outcome_text Outcome.Spent = bytes "spent: not halted after "
-outcome_text (Outcome.Failed n) = bytes "failed with " ++ (decimal n ++ (bytes ", " ++ (words_of n ++ bytes ", after ")))
+outcome_text (Outcome.Failed f) = let n = number_of f in bytes "failed with " ++ (decimal n ++ (bytes ", " ++ (words_of n ++ bytes ", after ")))
 
 -- whether a run stopped at a subscript: with `.CHECKED` it halted, and P is not behind the main body's last HLT. By demand 3h and 3l it is then behind the HLT of a test (O11)
 unfoldable pub stops_by : Bool → ℕ → Outcome → ℕ → Bool
 stops_by checked end Outcome.Halted at = checked && not (eqb at end)
 stops_by checked end Outcome.Spent at = false
-stops_by checked end (Outcome.Failed n) at = false
+stops_by checked end (Outcome.Failed f) at = false
 
 abbrev pub stops_in : Program → Outcome → ℕ → Bool
 stops_in p outcome at = stops_by p.checked (finished p).next outcome at
@@ -67,7 +70,11 @@ pub record ProgramRead (source : List ℕ) (r : ProgramFacts) (table : List ℕ)
   pub checked : (p : Program) (n : ℕ) → program_in source ≡ Got.got p n → r.checked ≡ p.checked
   pub end : (p : Program) (n : ℕ) → program_in source ≡ Got.got p n → r.end ≡ (finished p).next
 
--- the program that a source is parsed as, shown after its turns
+-- the program that a source is parsed as, added as it is shown after its turns
+abbrev pub AddsRun : List ℕ → Turned → List ℕ → Text → Text → Type 0
+AddsRun source t memory before after = (p : Program) (n : ℕ) → program_in source ≡ Got.got p n → Adds before after (run_text p t memory)
+
+-- and as it stands in the buffer
 abbrev pub ShowsRun : List ℕ → Turned → List ℕ → List ℕ → ℕ → List ℕ → Type 0
 ShowsRun source t memory out r out' = (p : Program) (n : ℕ) → program_in source ≡ Got.got p n → Wrote out out' 0 r (run_text p t memory)
 

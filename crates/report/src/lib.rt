@@ -3,10 +3,10 @@
 
 ghost use Rattle.report.specs.Shown.{Shows};
 
-use compiler::Answer;
 use effect::Switches;
 use failure_report::put_failure;
 use run::put_run;
+use text::Text;
 use turns::{run_turns, start};
 
 mod globals;
@@ -25,19 +25,16 @@ pub fn show(
     ensures { Shows source.now turns switches image.old scratch.old out.old
         result image.new scratch.new out.new }
 {
+    let mut text = Text::new(out);
     let answer = compiler::compile(source, &mut *image, &mut *scratch);
     match answer {
-        Answer::Accepted {
-            entry,
-            words: _,
-            globals: _,
-        } => {
-            let first = start(entry, switches);
+        Ok(program) => {
+            let first = start(program.entry, switches);
             let ran = run_turns(&mut *image, first, turns);
-            let size = put_run(source, ran, image, &mut *scratch, out);
+            put_run(&mut text, source, ran, image, &mut *scratch);
             compiler::clear(&mut *scratch);
-            size
         }
-        Answer::Failed { number, at } => put_failure(out, source, number, at),
+        Err(failure) => put_failure(&mut text, source, failure.cause.number(), failure.at),
     }
+    text.len
 }

@@ -1,79 +1,82 @@
 // The end of a run: the outcome, the steps, the registers and the globals (O4 to O6).
 ghost use Rattle.std.specs.Prelude.{◌≤◌, length, ◌≡◌};
 ghost use Rattle.declarations.specs.Scopes.{table_words};
-ghost use Rattle.digits.specs.Wrote.{Wrote};
-ghost use Rattle.report.specs.Shown.{outcome_text, stops_by, end_text, steps_text, bit_text, registers_text, ProgramRead, ShowsRun};
+ghost use Rattle.text.specs.Adds.{Adds};
+ghost use Rattle.report.specs.Shown.{outcome_text, stops_by, end_text, steps_text, bit_text, registers_text, ProgramRead, AddsRun};
 
 use crate::globals::{put_globals, word_at};
 use declarations::SectorEnds;
 use declarations::program::program;
-use digits::{put_byte, put_decimal, put_signed, put_text};
 use effect::Registers;
 use failure_report::put_words;
 use machine::Outcome;
-use symbols::ENTRY;
+use parser::Part;
+use text::Text;
 use turns::Turned;
 
 #[tactic(auto, unfolding(crate::specs::Shown::outcome_text))]
-fn put_outcome(out: &mut [u8], outcome: Outcome) -> usize
-    ensures { Wrote out.old out.new 0 result (outcome_text outcome) }
+fn put_outcome(text: &mut Text<'_>, outcome: Outcome)
+    ensures { Adds text.old text.new (outcome_text outcome) }
 {
     match outcome {
-        Outcome::Halted => put_text(out, 0, b"halted after "),
-        Outcome::Spent => put_text(out, 0, b"spent: not halted after "),
-        Outcome::Failed(number) => {
-            let one = put_text(out, 0, b"failed with ");
-            let two = put_decimal(out, one, number as usize);
-            let three = put_text(out, two, b", ");
-            let four = put_words(out, three, number);
-            put_text(out, four, b", after ")
+        Outcome::Halted => text.put(b"halted after "),
+        Outcome::Spent => text.put(b"spent: not halted after "),
+        Outcome::Failed(failure) => {
+            let number = failure.number();
+            text.put(b"failed with ");
+            text.decimal(number as usize);
+            text.put(b", ");
+            put_words(text, number);
+            text.put(b", after ");
         }
     }
 }
 
-fn put_steps(out: &mut [u8], at: usize, steps: u64) -> usize
-    ensures { Wrote out.old out.new at result (steps_text steps) }
+fn put_steps(text: &mut Text<'_>, steps: u64)
+    ensures { Adds text.old text.new (steps_text steps) }
 {
-    let next = put_decimal(out, at, steps as usize);
+    text.decimal(steps as usize);
     if steps == 1 {
-        return put_text(out, next, b" step\n");
+        text.put(b" step\n");
+        return;
     }
-    put_text(out, next, b" steps\n")
+    text.put(b" steps\n");
 }
 
 #[tactic(auto, unfolding(crate::specs::Shown::bit_text))]
-fn put_bit(out: &mut [u8], at: usize, bit: bool) -> usize
-    ensures { Wrote out.old out.new at result (bit_text bit) }
+fn put_bit(text: &mut Text<'_>, bit: bool)
+    ensures { Adds text.old text.new (bit_text bit) }
 {
     if bit {
-        return put_text(out, at, b"1");
+        text.put(b"1");
+    } else {
+        text.put(b"0");
     }
-    put_text(out, at, b"0")
 }
 
-fn put_registers(out: &mut [u8], at: usize, registers: Registers, x: u16) -> usize
-    ensures { Wrote out.old out.new at result (registers_text registers x) }
+fn put_registers(text: &mut Text<'_>, registers: Registers, x: u16)
+    ensures { Adds text.old text.new (registers_text registers x) }
 {
-    let one = put_text(out, at, b"registers: A = ");
-    let two = put_signed(out, one, registers.a);
-    let three = put_text(out, two, b", B = ");
-    let four = put_signed(out, three, registers.b);
-    let five = put_text(out, four, b", C = ");
-    let six = put_bit(out, five, registers.c);
-    let seven = put_text(out, six, b", X = ");
-    let eight = put_signed(out, seven, x);
-    put_byte(out, eight, b'\n')
+    text.put(b"registers: A = ");
+    text.signed(registers.a);
+    text.put(b", B = ");
+    text.signed(registers.b);
+    text.put(b", C = ");
+    put_bit(text, registers.c);
+    text.put(b", X = ");
+    text.signed(x);
+    text.put(b"\n");
 }
 
 // What is read of a program: how many names the table holds, whether its subscripts are tested, and the address behind its last HLT.
-#[derive(Clone, Copy)]
+#[derive(Clone, Copy, Debug, PartialEq, Eq)]
 pub struct ProgramFacts {
     pub names: usize,
     pub checked: bool,
     pub end: u16,
 }
 
-// The source read once more, on no image.
+// The source read once more, on no image; of one that fails, nothing.
 fn read_program(source: &[u8], table: &mut [u16]) -> ProgramFacts
     requires { table_words ≤ length table.old }
     ensures { ProgramRead source.now result table.new }
@@ -82,25 +85,18 @@ fn read_program(source: &[u8], table: &mut [u16]) -> ProgramFacts
         ends: [0u16; 32],
         count: 0,
     };
-    let mut none = [0u16; 0];
-    let read = program(source, table, &mut none, unplanned);
-    let allocation = read.allocation;
-    let names = allocation.names;
-    let checked = read.checked;
-    let last = read.end;
-    let end = last.next;
-    // Of a source that fails nothing is promised of the count, so it is held to what the table can have.
-    if table.len() / ENTRY < names {
+    let read = program(source, table, &mut [], unplanned);
+    let Ok(Part { value, next: _ }) = read else {
         return ProgramFacts {
             names: 0,
-            checked,
-            end,
+            checked: false,
+            end: 0,
         };
-    }
+    };
     ProgramFacts {
-        names,
-        checked,
-        end,
+        names: value.allocation.names,
+        checked: value.checked,
+        end: value.end.next,
     }
 }
 
@@ -117,35 +113,31 @@ fn stops(read: ProgramFacts, outcome: Outcome, p: u16) -> bool
 
 // How a run ended, with X where it stopped at a subscript.
 #[tactic(auto, unfolding(crate::specs::Shown::end_text))]
-fn put_ending(out: &mut [u8], stopped: bool, outcome: Outcome, x: u16) -> usize
-    ensures { Wrote out.old out.new 0 result (end_text stopped outcome x) }
+fn put_ending(text: &mut Text<'_>, stopped: bool, outcome: Outcome, x: u16)
+    ensures { Adds text.old text.new (end_text stopped outcome x) }
 {
     if !stopped {
-        return put_outcome(out, outcome);
+        put_outcome(text, outcome);
+        return;
     }
-    let one = put_text(out, 0, b"stopped: a subscript left its array, X = ");
-    let two = put_signed(out, one, x);
-    put_text(out, two, b", after ")
+    text.put(b"stopped: a subscript left its array, X = ");
+    text.signed(x);
+    text.put(b", after ");
 }
 
 // What is shown of a program that was run; the table is filled.
-pub fn put_run(
-    source: &[u8],
-    ran: Turned,
-    image: &[u16],
-    table: &mut [u16],
-    out: &mut [u8],
-) -> usize
+pub fn put_run(text: &mut Text<'_>, source: &[u8], ran: Turned, image: &[u16], table: &mut [u16])
     requires { table_words ≤ length table.old }
-    ensures { ShowsRun source.now ran image.now out.old result out.new }
+    ensures same_buffer { text.new.out.ghost_name ≡ text.old.out.ghost_name }
+    ensures run { AddsRun source.now ran image.now text.old text.new }
 {
     let machine = ran.machine;
     let registers = machine.registers;
     let outcome = ran.outcome;
     let x = word_at(image, 0);
     let read = read_program(source, table);
-    let one = put_ending(out, stops(read, outcome, machine.p), outcome, x);
-    let two = put_steps(out, one, ran.steps);
-    let three = put_registers(out, two, registers, x);
-    put_globals(out, three, table, read.names, image)
+    put_ending(text, stops(read, outcome, machine.p), outcome, x);
+    put_steps(text, ran.steps);
+    put_registers(text, registers, x);
+    put_globals(text, table, read.names, image);
 }

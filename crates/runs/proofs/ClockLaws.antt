@@ -11,7 +11,7 @@ use borrow.Author.Tests.{eqb-true, eqb-false, leb-true, leb-false}
 use Rattle.prelude.specs.Sum.{sum}
 use Rattle.machine.specs.declared.Clock.{Clock}
 use Rattle.machine.specs.State.{State}
-use Rattle.machine.specs.Failure.{wrong_cooperative}
+use Rattle.machine.specs.declared.failure.Failure.TheVariants.{WrongCooperative}
 use Rattle.machine.specs.Clock.{cooperatives, spend_many}
 use Rattle.machine.specs.Run.{Ran}
 use Rattle.machine.proofs.Ticks.{common_after, counts_after}
@@ -78,7 +78,7 @@ module _ (c : RunCall) (call : RunCalled c) (fits : Fits c.clock) where
   -- one that has none makes no step
   beyond : cooperatives ≤ cooperative_of c → Moved c
   beyond h =
-      let n : c.report.steps ≡ 0 = rw call.reported (ap (λ (r : Ran). r.work.steps) ((refusals c.turn.request c.start wrong_cooperative).answer (of_cooperative h))) in
+      let n : c.report.steps ≡ 0 = rw call.reported (ap (λ (r : Ran). r.work.steps) ((refusals c.turn.request c.start WrongCooperative).answer (of_cooperative h))) in
       let e = unchanged n in
       let bound = fits.each (cooperative_of c) in
       record {

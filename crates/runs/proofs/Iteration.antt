@@ -4,6 +4,7 @@ use mathlib.Core.Path.{◌≡◌, refl, ap, sym, subst, ◌∙◌}
 use mathlib.Core.Logic.{◌⊎◌, inl, inr}
 use mathlib.Core.Bool.{Bool, true, false, cond}
 use mathlib.Core.List.{List}
+use Rattle.std.specs.Prelude.{Result, Ok, Err}
 use native.Mathlib.Nat.{zero-add, suc-add}
 use native.Mathlib.Numerals.{one-add}
 use native.Mathlib.Omega.{arith}
@@ -14,10 +15,11 @@ use Rattle.instruction.specs.Decode.{decode_def}
 use Rattle.machine.specs.declared.Machine.{Machine}
 use Rattle.machine.specs.declared.Outcome.{Outcome}
 use Rattle.machine.specs.declared.Outcome.TheVariants.{Halted, Spent, Failed}
-use Rattle.machine.specs.declared.address.Address.{Address}
-use Rattle.machine.specs.declared.address.Address.TheVariants.{At, Long}
-use Rattle.machine.specs.Failure.{unknown_word, long_chain}
-use Rattle.machine.specs.Address.{address_of}
+use Rattle.machine.specs.declared.address.Reached.{Reached}
+use Rattle.machine.specs.declared.failure.Failure.{Failure}
+use Rattle.machine.specs.declared.failure.Failure.TheVariants.{UnknownWord, LongChain}
+use Rattle.instruction.proofs.Choice.{cond_all}
+use Rattle.machine.specs.Address.{follow_of, address_of}
 use Rattle.machine.specs.State.{State}
 use Rattle.machine.specs.Step.{Step, made, failed, memory_step, perform, step_def}
 use Rattle.machine.specs.Run.{Work, no_work, work_of, add_work, Ran, ran, idle, more, go_on, run_from}
@@ -86,22 +88,31 @@ run_halts b {n} {s} {u} r h l =
 -- a step fails with 20 or 21 only
 OneOf : Step → Type 0
 OneOf (made s) = Unit {0}
-OneOf (failed f) = (f ≡ unknown_word) ⊎ (f ≡ long_chain)
+OneOf (failed f) = (f ≡ UnknownWord) ⊎ (f ≡ LongChain)
 
-memory_fails : (code : ℕ) (m : Machine) (image : List ℕ) (a : Address) → OneOf (memory_step code m image a)
-unfolding OneOf
-memory_fails code m image (At e passed) = tt
-memory_fails code m image Long = inr refl
+FollowFails : Result Reached Failure → Type 0
+FollowFails (Ok r) = Unit {0}
+FollowFails (Err f) = f ≡ LongChain
+
+follow_fails : (image : List ℕ) (n : ℕ) (indirect : Bool) (at : ℕ) → FollowFails (follow_of image n indirect at)
+unfolding FollowFails follow_of
+follow_fails image zero indirect at = cond_all FollowFails indirect refl tt
+follow_fails image (suc n) indirect at = cond_all FollowFails indirect (follow_fails image n _ _) tt
+
+memory_fails : (code : ℕ) (m : Machine) (image : List ℕ) (a : Result Reached Failure) → FollowFails a → OneOf (memory_step code m image a)
+unfolding OneOf FollowFails
+memory_fails code m image (Ok r) h = tt
+memory_fails code m image (Err f) h = inr h
 
 perform_fails : (m : Machine) (image : List ℕ) (i : Instruction) → OneOf (perform m image i)
 unfolding OneOf
 perform_fails m image (Memory code indirect tag sector address) =
-    memory_fails code m image (address_of image m.p indirect tag sector address)
+    memory_fails code m image (address_of image m.p indirect tag sector address) (follow_fails image 16 indirect _)
 perform_fails m image (Shift kind n) = tt
 perform_fails m image (Generic slot) = tt
 perform_fails m image Unknown = inl refl
 
-pub step_fails : (s : State) (f : ℕ) → step_def s ≡ failed f → (f ≡ unknown_word) ⊎ (f ≡ long_chain)
+pub step_fails : (s : State) (f : Failure) → step_def s ≡ failed f → (f ≡ UnknownWord) ⊎ (f ≡ LongChain)
 unfolding OneOf step_def
 step_fails s f e = subst OneOf e (perform_fails s.machine s.image (decode_def (get_or s.image s.machine.p 0)))
 
@@ -156,7 +167,7 @@ stuck_halted u h = record {
   work_none = λ m. ap (λ (r : Ran). r.work) (run_halted m u h);
 }
 
-stuck_failing : (u : State) (f : ℕ) → u.machine.halted ≡ false → step_def u ≡ failed f → Stuck u
+stuck_failing : (u : State) (f : Failure) → u.machine.halted ≡ false → step_def u ≡ failed f → Stuck u
 unfolding run_from
 stuck_failing u f h e = record {
   state_stays = elim [ zero ↦ refl | suc m ↦ ap (λ (r : Ran). r.state) (run_failed (suc m) u h (omega arith) e) ];

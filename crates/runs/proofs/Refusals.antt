@@ -10,7 +10,9 @@ use borrow.Author.Tests.{eqb-true, eqb-false, leb-true, leb-false, ltb-true, ltb
 use Rattle.machine.specs.declared.Request.{Request}
 use Rattle.machine.specs.declared.Outcome.{Outcome}
 use Rattle.machine.specs.declared.Outcome.TheVariants.{Halted, Spent, Failed}
-use Rattle.machine.specs.Failure.{wrong_image, unknown_word, long_chain, over_budget, wrong_p, wrong_cooperative, refused}
+use Rattle.machine.specs.declared.failure.Failure.{Failure}
+use Rattle.machine.specs.declared.failure.Failure.TheVariants.{WrongImage, UnknownWord, LongChain, OverBudget, WrongP, WrongCooperative}
+use Rattle.machine.specs.Failure.{refused}
 use Rattle.machine.specs.State.{State, Good}
 use Rattle.machine.specs.Clock.{cooperatives}
 use Rattle.machine.specs.Run.{Ran, idle, run_from, run_def}
@@ -18,14 +20,14 @@ use Rattle.runs.specs.Outcomes.{Says, Refusal, of_cooperative, of_image, of_p, o
 use Rattle.runs.proofs.Iteration.{run_ends}
 
 pub data Decision (q : Request) (s : State) : Type 0 where
-  refuses : (n : ℕ) → Refusal q s n → refused (Failed n) ≡ true → run_def q s ≡ idle (Failed n) s → Decision q s
+  refuses : (f : Failure) → Refusal q s f → refused (Failed f) ≡ true → run_def q s ≡ idle (Failed f) s → Decision q s
   permits : Allowed q s → Decision q s
 
 -- the run by its four tests
 by_tests : Request → State → Bool → Bool → Bool → Bool → Ran
 by_tests q s cooperative image p budget =
-    cond cooperative (idle (Failed wrong_cooperative) s)
-    (cond image (cond p (idle (Failed wrong_p) s) (cond budget (idle (Failed over_budget) s) (run_from q.budget s))) (idle (Failed wrong_image) s))
+    cond cooperative (idle (Failed WrongCooperative) s)
+    (cond image (cond p (idle (Failed WrongP) s) (cond budget (idle (Failed OverBudget) s) (run_from q.budget s))) (idle (Failed WrongImage) s))
 
 module _ (q : Request) (s : State) where
   -- what the tests say, in the order in which they are made
@@ -44,12 +46,12 @@ module _ (q : Request) (s : State) where
 
   decided_by : (cooperative image p budget : Bool) → Tests cooperative image p budget → Decision q s
   unfolding by_tests
-  decided_by true image p budget t = refuses wrong_cooperative (of_cooperative (leb-true _ _ t.for)) refl (tested t)
-  decided_by false false p budget t = refuses wrong_image (of_image (leb-false _ _ t.for) (eqb-false _ _ t.sized)) refl (tested t)
+  decided_by true image p budget t = refuses WrongCooperative (of_cooperative (leb-true _ _ t.for)) refl (tested t)
+  decided_by false false p budget t = refuses WrongImage (of_image (leb-false _ _ t.for) (eqb-false _ _ t.sized)) refl (tested t)
   decided_by false true true budget t =
-      refuses wrong_p (of_p (leb-false _ _ t.for) (eqb-true _ _ t.sized) (ltb-true _ _ t.at)) refl (tested t)
+      refuses WrongP (of_p (leb-false _ _ t.for) (eqb-true _ _ t.sized) (ltb-true _ _ t.at)) refl (tested t)
   decided_by false true false true t =
-      refuses over_budget (of_budget (leb-false _ _ t.for) (eqb-true _ _ t.sized, in_image t.at) (ltb-true _ _ t.asked)) refl (tested t)
+      refuses OverBudget (of_budget (leb-false _ _ t.for) (eqb-true _ _ t.sized, in_image t.at) (ltb-true _ _ t.asked)) refl (tested t)
   decided_by false true false false t = permits (record {
     cooperative = leb-false _ _ t.for;
     good = (eqb-true _ _ t.sized, in_image t.at);
@@ -60,7 +62,7 @@ module _ (q : Request) (s : State) where
   pub decided : Decision q s
   decided = decided_by _ _ _ _ (record { for = refl; sized = refl; at = refl; asked = refl })
 
-  refusal_answer : (n : ℕ) → Refusal q s n → run_def q s ≡ idle (Failed n) s
+  refusal_answer : (f : Failure) → Refusal q s f → run_def q s ≡ idle (Failed f) s
   unfolding by_tests
   refusal_answer n (of_cooperative h) = tested (record { for = le-leb _ _ h; sized = refl; at = refl; asked = refl })
   refusal_answer n (of_image c h) = tested (record { for = lt-leb _ _ c; sized = ne_eqb _ _ h; at = refl; asked = refl })
@@ -76,22 +78,22 @@ not_refused_by n r Halted h = refl
 not_refused_by n r Spent h = refl
 not_refused_by n r (Failed f) h = numbered h.3
   where
-    numbered : (f ≡ unknown_word) ⊎ (f ≡ long_chain) → refused (Failed f) ≡ false
-    numbered (inl e) = ap (λ (j : ℕ). refused (Failed j)) e
-    numbered (inr e) = ap (λ (j : ℕ). refused (Failed j)) e
+    numbered : (f ≡ UnknownWord) ⊎ (f ≡ LongChain) → refused (Failed f) ≡ false
+    numbered (inl e) = ap (λ (j : Failure). refused (Failed j)) e
+    numbered (inr e) = ap (λ (j : Failure). refused (Failed j)) e
 
 -- an iteration of the step is never refused
 pub not_refused : (n : ℕ) (s : State) → refused (run_from n s).outcome ≡ false
 not_refused n s = not_refused_by n (run_from n s) (run_from n s).outcome (run_ends n s).says
 
-refusal_cause : (q : Request) (s : State) (n : ℕ) → Decision q s → refused (run_def q s).outcome ≡ true → (run_def q s).outcome ≡ Failed n → Refusal q s n
+refusal_cause : (q : Request) (s : State) (n : Failure) → Decision q s → refused (run_def q s).outcome ≡ true → (run_def q s).outcome ≡ Failed n → Refusal q s n
 refusal_cause q s n (refuses m c r e) h o =
     let d : m ≡ n = cc in subst (Refusal q s) d c
 refusal_cause q s n (permits a) h o =
     let l : refused (run_def q s).outcome ≡ false = ap (λ (r : Ran). refused r.outcome) a.run ∙ not_refused q.budget s in
     absurd (never h l)
 
-pub refusals : (q : Request) (s : State) (n : ℕ) → RefusedExactly q s n
+pub refusals : (q : Request) (s : State) (n : Failure) → RefusedExactly q s n
 refusals q s n = record { answer = refusal_answer q s n; cause = refusal_cause q s n (decided q s) }
 
 allowed_by : (q : Request) (s : State) → Decision q s → refused (run_def q s).outcome ≡ false → Allowed q s

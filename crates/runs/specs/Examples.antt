@@ -5,6 +5,7 @@ use Rattle.instruction.specs.Decode.{find_word, generic_of, shift_of, memory_of,
 use Rattle.effect.specs.Effects.{unary_of}
 use Rattle.effect.specs.Skips.{skips_of}
 use Rattle.machine.specs.declared.Clock.{Clock}
+use Rattle.machine.specs.declared.failure.Failure.TheVariants.{UnknownWord, OverBudget, WrongCooperative}
 use Rattle.machine.specs.declared.Outcome.{Outcome}
 use Rattle.machine.specs.declared.Outcome.TheVariants.{Halted, Spent, Failed}
 use Rattle.machine.specs.State.{State, state}
@@ -66,7 +67,7 @@ abbrev calls : List RunCall
 calls = two_steps ∷ to_the_halt ∷ halted_before ∷ no_count ∷ over_budget ∷ other_machine ∷ failing ∷ []
 
 steps : map {B = Outcome × ℕ} (λ (c : RunCall). (c.report.outcome, c.report.steps)) calls
-    ≡ (Spent, 2) ∷ (Halted, 2) ∷ (Halted, 0) ∷ (Failed 27, 0) ∷ (Failed 22, 0) ∷ (Halted, 1) ∷ (Failed 20, 3) ∷ []
+    ≡ (Spent, 2) ∷ (Halted, 2) ∷ (Halted, 0) ∷ (Failed WrongCooperative, 0) ∷ (Failed OverBudget, 0) ∷ (Halted, 1) ∷ (Failed UnknownWord, 3) ∷ []
 unfolding run_def run_from step_def decode_def shift_of generic_of find_word generics memory_of generic_def unary_of skips_of
 steps = refl
 

@@ -3,7 +3,9 @@ use Rattle.std.specs.Prelude.{ℕ, ◌≤◌, ◌<◌, ◌≡◌, ◌⊎◌, tru
 use Rattle.machine.specs.declared.Request.{Request}
 use Rattle.machine.specs.declared.Outcome.{Outcome}
 use Rattle.machine.specs.declared.Outcome.TheVariants.{Halted, Spent, Failed}
-use Rattle.machine.specs.Failure.{wrong_image, unknown_word, long_chain, over_budget, wrong_p, wrong_cooperative, refused}
+use Rattle.machine.specs.declared.failure.Failure.{Failure}
+use Rattle.machine.specs.declared.failure.Failure.TheVariants.{WrongImage, UnknownWord, LongChain, OverBudget, WrongP, WrongCooperative}
+use Rattle.machine.specs.Failure.{refused}
 use Rattle.machine.specs.State.{State, Good}
 use Rattle.machine.specs.Step.{failed, step_def}
 use Rattle.machine.specs.Clock.{cooperatives}
@@ -16,7 +18,7 @@ abbrev pub Says : ℕ → Ran → Outcome → Type 0
 Says budget r Halted = r.state.machine.halted ≡ true
 Says budget r Spent = (r.work.steps ≡ budget) × (r.state.machine.halted ≡ false)
 Says budget r (Failed f) =
-    (r.work.steps < budget) × (r.state.machine.halted ≡ false) × (step_def r.state ≡ failed f) × ((f ≡ unknown_word) ⊎ (f ≡ long_chain))
+    (r.work.steps < budget) × (r.state.machine.halted ≡ false) × (step_def r.state ≡ failed f) × ((f ≡ UnknownWord) ⊎ (f ≡ LongChain))
 
 -- r is the end of a run from s on a budget: just so many steps were made as it reports, no more than the budget (R2, demand 1b)
 pub record Ended (budget : ℕ) (s : State) (r : Ran) : Type 0 where
@@ -24,17 +26,17 @@ pub record Ended (budget : ℕ) (s : State) (r : Ran) : Type 0 where
   pub within : r.work.steps ≤ budget
   pub says : Says budget r r.outcome
 
--- why a run is refused, and with which number, each where none before it applies (J12, F27, F1, F23, F22)
-pub data Refusal : Request → State → ℕ → Type 0 where
-  of_cooperative : {q : Request} {s : State} → cooperatives ≤ q.cooperative → Refusal q s wrong_cooperative
-  of_image : {q : Request} {s : State} → q.cooperative < cooperatives → (length s.image ≡ 16384 → ⊥) → Refusal q s wrong_image
-  of_p : {q : Request} {s : State} → q.cooperative < cooperatives → length s.image ≡ 16384 → 16383 < s.machine.p → Refusal q s wrong_p
-  of_budget : {q : Request} {s : State} → q.cooperative < cooperatives → Good s → 1000000 < q.budget → Refusal q s over_budget
+-- why a run is refused, and with which failure, each where none before it applies (J12, F27, F1, F23, F22)
+pub data Refusal : Request → State → Failure → Type 0 where
+  of_cooperative : {q : Request} {s : State} → cooperatives ≤ q.cooperative → Refusal q s WrongCooperative
+  of_image : {q : Request} {s : State} → q.cooperative < cooperatives → (length s.image ≡ 16384 → ⊥) → Refusal q s WrongImage
+  of_p : {q : Request} {s : State} → q.cooperative < cooperatives → length s.image ≡ 16384 → 16383 < s.machine.p → Refusal q s WrongP
+  of_budget : {q : Request} {s : State} → q.cooperative < cooperatives → Good s → 1000000 < q.budget → Refusal q s OverBudget
 
--- a run is refused with the number n exactly on n's cause; then it makes no step and changes nothing (R7, demand 1d, 2b)
-pub record RefusedExactly (q : Request) (s : State) (n : ℕ) : Type 0 where
-  pub answer : Refusal q s n → run_def q s ≡ idle (Failed n) s
-  pub cause : refused (run_def q s).outcome ≡ true → (run_def q s).outcome ≡ Failed n → Refusal q s n
+-- a run is refused with the failure f exactly on f's cause; then it makes no step and changes nothing (R7, demand 1d, 2b)
+pub record RefusedExactly (q : Request) (s : State) (f : Failure) : Type 0 where
+  pub answer : Refusal q s f → run_def q s ≡ idle (Failed f) s
+  pub cause : refused (run_def q s).outcome ≡ true → (run_def q s).outcome ≡ Failed f → Refusal q s f
 
 -- any other run, for a cooperative that has a count, is the iteration of the step up to its budget, from an image of 16,384 words with P in it
 pub record Allowed (q : Request) (s : State) : Type 0 where

@@ -2,6 +2,7 @@
 use Rattle.std.specs.Prelude.{ℕ, suc, ◌+◌, ◌≤◌, ◌<◌, ◌≡◌, true, false, List, [], ◌∷◌}
 use Rattle.machine.specs.declared.Clock.{Clock}
 use Rattle.machine.specs.declared.Request.{Request}
+use Rattle.machine.specs.declared.failure.Failure.{Failure}
 use Rattle.machine.specs.declared.Outcome.TheVariants.{Halted, Spent}
 use Rattle.machine.specs.Failure.{refused}
 use Rattle.machine.specs.State.{State, Good}
@@ -31,7 +32,7 @@ pub record AsOne (vs : List Turn) (s : State) : Type 0 where
 
 pub record RunLaws : Type 0 where
   -- a run is refused exactly on its cause
-  pub refusals : (q : Request) (s : State) (n : ℕ) → RefusedExactly q s n
+  pub refusals : (q : Request) (s : State) (f : Failure) → RefusedExactly q s f
   -- any other run is the iteration of the step
   pub allowed : (q : Request) (s : State) → refused (run_def q s).outcome ≡ false → Allowed q s
   -- it made the steps that it reports, and ended as its outcome says: none are made up (C3)

@@ -1,29 +1,22 @@
 // Reading what a run starts with: decimal numbers.
-use case_input::{parse_number, parse_registers, parse_switches};
+use case_input::Numbers;
 use machine::Machine;
 
-// What a run starts with besides the image, and where the words to set start.
-#[derive(Drop)]
+// What a run starts with besides the image.
+#[derive(Debug, Clone, Copy)]
 pub struct Start {
     pub machine: Machine,
     pub budget: u32,
-    pub next: usize,
 }
 
-pub fn parse_start(text: &[u8], at: usize, entry: u16) -> Start {
-    let r = parse_registers(text, at);
-    let s = parse_switches(text, r.next);
-    let budget = parse_number(text, s.next);
-    let registers = r.registers;
-    let switches = s.switches;
+pub fn read_start(numbers: &mut Numbers, entry: u16) -> Start {
     Start {
         machine: Machine {
-            registers,
+            registers: numbers.registers(),
             p: entry,
-            switches,
+            switches: numbers.switches(),
             halted: false,
         },
-        budget: budget.value,
-        next: budget.next,
+        budget: numbers.number(),
     }
 }

@@ -6,6 +6,7 @@ use native.Mathlib.Nat.{not-suc-le-zero}
 use native.Mathlib.Omega.{arith}
 use lib.ListN.{replicate}
 use Rattle.instruction.proofs.Choice.{no}
+use Rattle.machine.specs.declared.failure.Failure.{Failure}
 use Rattle.machine.specs.declared.Outcome.{Outcome}
 use Rattle.machine.specs.declared.Outcome.TheVariants.{Halted, Spent, Failed}
 use Rattle.machine.specs.Failure.{refused}
@@ -30,7 +31,7 @@ module _ (b m : ℕ) (s : State) where
       let l = e.within in
       run_halts (b + m) e.made h (omega arith) ∙ sym (run_halts b e.made h l)
 
-  settled_failed : (f : ℕ) → (run_from b s).outcome ≡ Failed f → run_from (b + m) s ≡ run_from b s
+  settled_failed : (f : Failure) → (run_from b s).outcome ≡ Failed f → run_from (b + m) s ≡ run_from b s
   settled_failed f o =
       let e = run_ends b s in
       let h : Says b (run_from b s) (Failed f) = subst (Says b (run_from b s)) o e.says in
@@ -109,7 +110,7 @@ refusal zero s h o = absurd (not-suc-le-zero h)
 refusal (suc n) s h o = then_refused (run_def one_turn s) (λ (t : State). turns_def n t) (run_def one_turn s).outcome o
 
 -- each run of the list is refused again, as nothing has changed
-stays : (n : ℕ) (s : State) (f : ℕ) → run_def one_turn s ≡ idle (Failed f) s
+stays : (n : ℕ) (s : State) (f : Failure) → run_def one_turn s ≡ idle (Failed f) s
     → ((runs_def (replicate n listed) s).state ≡ s) × ((runs_def (replicate n listed) s).work ≡ no_work)
 unfolding runs_def
 stays zero s f e = (refl, refl)

@@ -1,19 +1,15 @@
 -- Turns as the loop that takes them sees them: where it begins, after a turn that is spent, after one that is the last, and where none is left.
 use Prim.Native.Nat.{ℕ, suc, ◌+◌, ◌-◌, ◌≤◌, ◌<◌}
 use mathlib.Core.Path.{◌≡◌, refl, ap, sym, ◌∙◌}
-use mathlib.Core.List.{List, [], ◌∷◌}
-use native.Mathlib.Nat.{sub-zero}
+use mathlib.Core.List.{List}
 use native.Mathlib.Omega.{arith}
-use types.Run.{OneOf, miss}
-use denote.Enum.Declared.{tag_of}
 use Rattle.machine.specs.declared.Clock.{Clock}
 use Rattle.machine.specs.declared.Report.{Report}
 use Rattle.machine.specs.declared.Outcome.{Outcome}
 use Rattle.machine.specs.declared.Outcome.TheVariants.{Halted, Spent, Failed}
 use Rattle.machine.specs.State.{State, state}
-use Rattle.machine.specs.Run.{Work, work, no_work, add_work, Ran, ran, more, run_def, Reports}
-use Rattle.machine.specs.contracts.Outcome.{the_type}
-use Rattle.machine.proofs.RunSteps.{add_work_none, more_more, more_none}
+use Rattle.machine.specs.Run.{Work, work, add_work, Ran, ran, more, run_def, Reports}
+use Rattle.machine.proofs.RunSteps.{add_work_none, more_more}
 use Rattle.turns.specs.Turns.{one_turn, and_then, turns_def}
 
 -- a turn, by what the call reports of it
@@ -22,17 +18,10 @@ pub turn_reported : (s : State) (clock : Clock) (answer : Report) (after : List 
 turn_reported s clock answer after h = λ i.
     let a = sym h.0 i in ran (work a.steps) a.outcome (state a.machine (sym h.1 i))
 
--- as the code's match tells it: the outcome is Halted or Failed
-abbrev pub Last : Outcome → Type 0
-Last o = OneOf (0 ∷ 2 ∷ []) (tag_of the_type o)
-
-pub then_none : (r : Ran) (next : State → Ran) (o : Outcome) → Last o → and_then r next o ≡ r
+then_none : (r : Ran) (next : State → Ran) (o : Outcome) → (o ≡ Spent → ⊥) → and_then r next o ≡ r
 then_none r next Halted h = refl
-then_none r next Spent h = absurd (miss (0 ∷ 2 ∷ []) 1 tt h)
+then_none r next Spent h = absurd (h refl)
 then_none r next (Failed f) h = refl
-
-pub turns_start : (n : ℕ) (s : State) → turns_def n s ≡ more no_work (turns_def (n - 0) s)
-turns_start n s = rw (sub-zero n) (sym (more_none (turns_def n s)))
 
 module _ (n i : ℕ) (w : Work) (s₀ s : State) (before : turns_def n s₀ ≡ more w (turns_def (n - i) s)) where
   one_more : i < n → turns_def (n - i) s ≡ and_then (run_def one_turn s) (λ (t : State). turns_def (n - (i + 1)) t) (run_def one_turn s).outcome
@@ -47,7 +36,7 @@ module _ (n i : ℕ) (w : Work) (s₀ s : State) (before : turns_def n s₀ ≡ 
       ∙ ap (more w) (one_more h ∙ ap (λ (x : Ran). and_then x next x.outcome) e ∙ ap (and_then r next) o)
       ∙ more_more w r.work (next r.state)
 
-  pub turns_last : {r : Ran} → i < n → run_def one_turn s ≡ r → Last r.outcome → turns_def n s₀ ≡ more w r
+  pub turns_last : {r : Ran} → i < n → run_def one_turn s ≡ r → (r.outcome ≡ Spent → ⊥) → turns_def n s₀ ≡ more w r
   turns_last {r} h e o =
       let next : State → Ran = λ t. turns_def (n - (i + 1)) t in
       before ∙ ap (more w) (one_more h ∙ ap (λ (x : Ran). and_then x next x.outcome) e ∙ then_none r next r.outcome o)

@@ -5,6 +5,7 @@ use Rattle.instruction.specs.Decode.{find_word, generic_of, shift_of, memory_of,
 use Rattle.effect.specs.Effects.{unary_of}
 use Rattle.effect.specs.Skips.{skips_of}
 use Rattle.machine.specs.declared.Machine.{Machine}
+use Rattle.machine.specs.declared.failure.Failure.TheVariants.{WrongImage, UnknownWord, WrongP}
 use Rattle.machine.specs.declared.Outcome.{Outcome}
 use Rattle.machine.specs.declared.Outcome.TheVariants.{Halted, Spent, Failed}
 use Rattle.machine.specs.State.{state}
@@ -44,15 +45,15 @@ unfolding turns_def run_def run_from step_def decode_def shift_of generic_of fin
 first_halts = refl
 
 -- NOP, and then a word that is no instruction
-first_fails : ending (turns_def 3 (state (machine_at 5 false) (set (set halts 5 0o101000) 6 0o026000))) ≡ (Failed 20, 1, 6)
+first_fails : ending (turns_def 3 (state (machine_at 5 false) (set (set halts 5 0o101000) 6 0o026000))) ≡ (Failed UnknownWord, 1, 6)
 unfolding turns_def run_def run_from step_def decode_def shift_of generic_of find_word generics memory_of generic_def unary_of skips_of
 first_fails = refl
 
 -- refused: an image of another length, and P outside of it
-wrong_image_lem : ending (turns_def 3 (state (machine_at 5 false) (0 ∷ halts))) ≡ (Failed 1, 0, 5)
+wrong_image_lem : ending (turns_def 3 (state (machine_at 5 false) (0 ∷ halts))) ≡ (Failed WrongImage, 0, 5)
 unfolding turns_def run_def
 wrong_image_lem = refl
 
-wrong_p_lem : ending (turns_def 3 (state (machine_at 16384 false) halts)) ≡ (Failed 23, 0, 16384)
+wrong_p_lem : ending (turns_def 3 (state (machine_at 16384 false) halts)) ≡ (Failed WrongP, 0, 16384)
 unfolding turns_def run_def
 wrong_p_lem = refl

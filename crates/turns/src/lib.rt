@@ -13,7 +13,7 @@ use machine::{Machine, Outcome, Request};
 const TURN: u32 = 1000000;
 
 // What the turns come to, their steps added up.
-#[derive(Drop)]
+#[derive(Debug, Clone, Copy, PartialEq, Eq)]
 pub struct Turned {
     pub steps: u64,
     pub outcome: Outcome,
@@ -25,11 +25,7 @@ pub fn start(entry: u16, switches: Switches) -> Machine
     ensures { result ≡ start_machine entry switches }
 {
     Machine {
-        registers: Registers {
-            a: 0,
-            b: 0,
-            c: false,
-        },
+        registers: Registers::default(),
         p: entry,
         switches,
         halted: false,
@@ -54,17 +50,14 @@ pub fn run_turns(image: &mut [u16], machine: Machine, turns: u32) -> Turned
         );
         let outcome = report.outcome;
         m = report.machine;
-        steps += report.steps as u64;
-        match outcome {
-            Outcome::Spent => {}
-            Outcome::Halted | Outcome::Failed(_) => {
-                return Turned {
-                    steps,
-                    outcome,
-                    machine: m,
-                };
-            }
-        }
+        steps += u64::from(report.steps);
+        let Outcome::Spent = outcome else {
+            return Turned {
+                steps,
+                outcome,
+                machine: m,
+            };
+        };
     }
     Turned {
         steps,

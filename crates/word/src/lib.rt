@@ -5,6 +5,8 @@
 ghost use Rattle.std.specs.Prelude.{◌≡◌, ◌<◌};
 ghost use Rattle.word.specs.Arithmetic.{bit, biased, overflows, sum_of, difference_of, compare_of};
 
+use std::cmp::Ordering;
+
 pub mod bytes;
 pub mod shift;
 
@@ -12,7 +14,7 @@ pub mod shift;
 pub const SIGN: u16 = 0o100000;
 
 // A word, and the bit that goes to C.
-#[derive(Drop)]
+#[derive(Debug, Clone, Copy, PartialEq, Eq)]
 pub struct Flagged {
     pub word: u16,
     pub flag: bool,
@@ -21,14 +23,14 @@ pub struct Flagged {
 pub fn bit(b: bool) -> u16
     ensures { (result ≡ bit b) × (result < 2) }
 {
-    if b { 1 } else { 0 }
+    u16::from(b)
 }
 
 // The signed value plus 32768.
 pub fn bias(w: u16) -> u32
     ensures { (result ≡ biased w) × (result < 65536) }
 {
-    (w as u32 + SIGN as u32) % 65536
+    u32::from(w.wrapping_add(SIGN))
 }
 
 // Whether a signed value, given plus 65536, is outside of what a word holds.
@@ -43,9 +45,10 @@ pub fn sum(a: u16, v: u16) -> Flagged
     ensures { result ≡ sum_of a v }
 {
     let raised = bias(a) + bias(v);
-    let word = ((a as u32 + v as u32) % 65536) as u16;
-    let flag = overflow(raised);
-    Flagged { word, flag }
+    Flagged {
+        word: a.wrapping_add(v),
+        flag: overflow(raised),
+    }
 }
 
 #[tactic(auto, unfolding(crate::specs::Arithmetic::difference_of))]
@@ -53,9 +56,10 @@ pub fn difference(a: u16, v: u16) -> Flagged
     ensures { result ≡ difference_of a v }
 {
     let raised = bias(a) + 65536 - bias(v);
-    let word = ((a as u32 + 65536 - v as u32) % 65536) as u16;
-    let flag = overflow(raised);
-    Flagged { word, flag }
+    Flagged {
+        word: a.wrapping_sub(v),
+        flag: overflow(raised),
+    }
 }
 
 // How many words CAS skips.
@@ -63,13 +67,9 @@ pub fn difference(a: u16, v: u16) -> Flagged
 pub fn compare(a: u16, v: u16) -> u16
     ensures { result ≡ compare_of a v }
 {
-    let biased_a = bias(a);
-    let biased_v = bias(v);
-    if biased_v < biased_a {
-        return 0;
+    match bias(a).cmp(&bias(v)) {
+        Ordering::Greater => 0,
+        Ordering::Equal => 1,
+        Ordering::Less => 2,
     }
-    if biased_a == biased_v {
-        return 1;
-    }
-    2
 }

@@ -1,5 +1,5 @@
-use Rattle.digits.proofs.Laws.{then}
+use Rattle.text.proofs.Laws.{and_then}
 use Rattle.listing_lines.proofs.put_line.Goals as goal
 
 pub returns : goal.returns
-returns c = then c.put_text-named.ensures (then c.put_octal-valued.ensures c.put_byte.ensures)
+returns c = and_then c.put.ensures (and_then c.octal.ensures c.put-2.ensures)

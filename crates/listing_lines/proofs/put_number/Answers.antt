@@ -1,5 +1,5 @@
-use Rattle.digits.proofs.Laws.{then}
+use Rattle.text.proofs.Laws.{and_then}
 use Rattle.listing_lines.proofs.put_number.Goals as goal
 
 pub returns : goal.returns
-returns c = then c.put_text-named.ensures (then c.put_decimal-numbered.ensures c.put_byte.ensures)
+returns c = and_then c.put.ensures (and_then c.decimal.ensures c.byte.ensures)

@@ -7,8 +7,8 @@ use Rattle.machine.proofs.make_steps.Goals as goal
 
 pub loop-m-preserved : goal.loop-m-preserved
 loop-m-preserved c =
-    let made-step : step_def (state c.loop-m.m c.loop-m.image) ≡ made (state c.in-Made.next c.step-stepped.new.image) =
-    step_made _ _ _ (sym c.step-stepped.ensures.0 ∙ c.in-Made.is) c.step-stepped.ensures.1 in
+    let made-step : step_def (state c.loop-m.m c.loop-m.image) ≡ made (state c.in-Ok.next c.step-stepped.new.image) =
+    step_made _ _ _ (sym c.step-stepped.ensures.0 ∙ c.in-Ok.is) c.step-stepped.ensures.1 in
     let l = c.loop-m in
     let e = made-step in
     let g = subst GoodStep e (step_good (state l.m l.image) l.invariant.1) in

@@ -1,7 +1,7 @@
-use Rattle.digits.proofs.Laws.{then}
+use Rattle.text.proofs.Laws.{and_then}
 use Rattle.page.specs.Page.{farm_line}
 use Rattle.page.proofs.put_line.Goals as goal
 
 pub returns : goal.returns
 unfolding farm_line
-returns c = then c.put_left-one.ensures (then c.put_byte-two.ensures (then c.put_right-three.ensures (then c.put_byte-four.ensures (then c.put_right-five.ensures c.put_byte.ensures))))
+returns c = and_then c.left.ensures (and_then c.put.ensures (and_then c.right.ensures (and_then c.put-2.ensures (and_then c.right-2.ensures c.put-3.ensures))))

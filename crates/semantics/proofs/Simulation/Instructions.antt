@@ -18,9 +18,8 @@ use Rattle.instruction.specs.Decode.{find_word, generic_of, decode_def}
 use Rattle.instruction.specs.Field.{TAG, INDIRECT, indirect_of, tag_of}
 use Rattle.instruction.specs.declared.Instruction.TheVariants.{Shift, Generic}
 use Rattle.machine.specs.declared.Machine.{Machine}
-use Rattle.machine.specs.declared.address.Address.TheVariants as address
 use Rattle.machine.specs.State as machine
-use Rattle.machine.specs.Address.{follow_of}
+use Rattle.machine.specs.Address.{follow_of, reached}
 use Rattle.machine.specs.Step.{past_of, onward, memory_def, generic_def, made, memory_step, step_def}
 use Rattle.machine.proofs.Chains.{follow_end, follow_more, onwards}
 use Rattle.machine.proofs.Good.{step_of}
@@ -55,12 +54,12 @@ InPlace M e (Place.worth v) = M e ≡ Role.fixed v
 pub record Located (M : Map) (m : List ℕ) (indirect : Bool) (k : ℕ) (l : Place) : Type 0 where
   pub word : ℕ
   pub passed : ℕ
-  pub found : follow_of m 16 indirect k ≡ address.At word passed
+  pub found : follow_of m 16 indirect k ≡ reached word passed
   pub below : word < 16384
   pub here : InPlace M word l
 
 -- an indirect word without flags
-follow_link : (m : List ℕ) (k w : ℕ) → get_or m k 0 ≡ w → w < 16384 → follow_of m 16 true k ≡ address.At w 1
+follow_link : (m : List ℕ) (k w : ℕ) → get_or m k 0 ≡ w → w < 16384 → follow_of m 16 true k ≡ reached w 1
 follow_link m k w e b =
     let quotient : w / TAG ≡ 0 = omega arith in
     let remainder : w % 16384 ≡ w = omega arith in
@@ -70,7 +69,7 @@ follow_link m k w e b =
 
 -- an indirect word with the tag
 follow_array : (m : List ℕ) (k w x : ℕ) → get_or m k 0 ≡ w → indirect_of w ≡ false → tag_of w ≡ true → get_or m 0 0 ≡ x
-    → follow_of m 16 true k ≡ address.At ((w % 16384 + x) % 16384) 1
+    → follow_of m 16 true k ≡ reached ((w % 16384 + x) % 16384) 1
 follow_array m k w x e straight tagged ex =
     let first : follow_of m 16 true k ≡ follow_of m 15 (indirect_of w) (onwards m w) = rw e at (follow_more m 16 k (omega arith)) in
     first ∙ rw (straight, tagged, ex) (follow_end m 15 ((w % 16384 + x) % 16384) (omega arith))
@@ -147,7 +146,7 @@ module _ (M : Map) (sound : Sound M) (s₀ : machine.State) {κ : Links} {a : �
 
   -- ---- Memory references
 
-  memory_made : {code k e n : ℕ} {indirect : Bool} {u : machine.State} → Refers M a code indirect k → follow_of m 16 indirect k ≡ address.At e n
+  memory_made : {code k e n : ℕ} {indirect : Bool} {u : machine.State} → Refers M a code indirect k → follow_of m 16 indirect k ≡ reached e n
       → memory_def code e (machine_of σ a) m ≡ u → Steps (suc σ.steps) s₀ u
   memory_made {code} {k} {e} {n} {indirect} r f q =
       stepped M sound s₀ h r.sits
@@ -162,7 +161,7 @@ module _ (M : Map) (sound : Sound M) (s₀ : machine.State) {κ : Links} {a : �
   value_at_lem {l = l} o = value l o.word o.below o.here
 
   -- the word at e is read
-  read_at : {code k e n v : ℕ} {indirect : Bool} → Reads code → Refers M a code indirect k → follow_of m 16 indirect k ≡ address.At e n → get_or m e 0 ≡ v
+  read_at : {code k e n v : ℕ} {indirect : Bool} → Reads code → Refers M a code indirect k → follow_of m 16 indirect k ≡ reached e n → get_or m e 0 ≡ v
       → At M sound s₀ κ (suc a) (with_registers σ (operate_of code v σ.registers)) m
   read_at {code} {e = e} reads r found is = record {
     made = memory_made r found (reads e (machine_of σ a) m

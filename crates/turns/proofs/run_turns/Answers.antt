@@ -2,17 +2,16 @@ use mathlib.Core.Path.{refl}
 use native.Mathlib.Omega.{arith}
 use borrow.Author.Rules.{rules}
 use Rattle.turns.proofs.Turns.{turn_reported, turns_onward, turns_last, turns_done}
-use borrow.Enum.Refused.{opened}
 use Rattle.turns.proofs.run_turns.Goals as goal
 
-pub returns-in-Halted : goal.returns-in-Halted
-returns-in-Halted c = let l = c.loop in
-    let e = turns_last _ _ _ _ _ l.invariant.0 (omega arith) (turn_reported _ _ _ _ c.run-report.ensures) (opened c.in-Halted.in-Halted-own.keys2) in
-    rw e (refl, refl)
+pub returns-in_default : goal.returns-in_default
+returns-in_default c = let l = c.loop in
+    let e = turns_last _ _ _ _ _ l.invariant.0 (omega arith) (turn_reported _ _ _ _ c.run-report.ensures) c.in_default.not-Spent in
+    rw (e, c.from-steps.ensures) (refl, refl)
 
 pub loop-preserved : goal.loop-preserved
 loop-preserved c = let l = c.loop in (
-  turns_onward _ _ _ _ _ l.invariant.0 (omega arith) (turn_reported _ _ _ _ c.run-report.ensures) c.in-Spent.is,
+  rw c.from-steps.ensures (turns_onward _ _ _ _ _ l.invariant.0 (omega arith) (turn_reported _ _ _ _ c.run-report.ensures) c.in-Spent.is),
   search rules,
   omega arith,
   search rules,

@@ -1,4 +1,5 @@
 use mathlib.Core.Path.{◌≡◌}
+use Prim.Native.Nat.{◌-◌}
 use lib.ListN.{length}
 use Rattle.grammar.specs.Declarations.{more_declarations, parse_declarations}
 use Rattle.declarations.specs.Allocations.{end_of, Declared}
@@ -6,10 +7,7 @@ use Rattle.parser.proofs.ReadLaws.{Turning}
 use Rattle.declarations.proofs.program.declarations.Given as goal
 
 -- The invariant: from `from` on, with the declarations that are done, the definition reads what it reads from `at` on.
-abbrev pub invariant-loop-left : goal.invariant-loop-left
-invariant-loop-left l =
-    Turning (more_declarations l.source l.checked) (parse_declarations l.source l.checked l.at) (Declared (end_of l.plan) l.initial.current l.initial.table l.initial.image l.current l.table l.image) l.from l.left
+abbrev pub invariant-loop : goal.invariant-loop
+invariant-loop l =
+    Turning (more_declarations l.source l.checked) (parse_declarations l.source l.checked l.at) (Declared (end_of l.plan) l.initial.current l.initial.table l.initial.image l.current l.table l.image) l.from (l.end - l.counter)
     × (length l.table ≡ length l.initial.table) × (length l.image ≡ length l.initial.image)
-
-abbrev pub decreases-loop-left : goal.decreases-loop-left
-decreases-loop-left l = l.left

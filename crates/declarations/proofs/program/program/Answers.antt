@@ -20,8 +20,8 @@ room {n} h l = le-leb table_words n (omega (arith, h, l))
 -- A short table is refused; else it is the program, and no call changes a length.
 pub returns-then-table-lt-TABLE_WORDS : goal.returns-then-table-lt-TABLE_WORDS
 unfolding program_on
-returns-then-table-lt-TABLE_WORDS c = (fails {k = 2} {at = 0} (rw (short c.if-table-lt-TABLE_WORDS.true (omega arith))) refl tt, record { table_kept = refl; image_kept = refl })
+returns-then-table-lt-TABLE_WORDS c = (fails (rw (short c.if-table-lt-TABLE_WORDS.true (omega arith)) refl) refl tt, record { table_kept = refl; image_kept = refl })
 
 pub returns : goal.returns
 unfolding program_on
-returns c = (reads_on (rw (room c.if-table-lt-TABLE_WORDS.false (omega arith))) c.whole.ensures, record { table_kept = c.whole.auto.table; image_kept = c.whole.auto.image })
+returns c = (reads_on (rw (room c.if-table-lt-TABLE_WORDS.false (omega arith)) refl) c.whole.ensures, record { table_kept = c.whole.auto.table; image_kept = c.whole.auto.image })

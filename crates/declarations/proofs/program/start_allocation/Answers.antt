@@ -9,7 +9,7 @@ use Rattle.declarations.proofs.program.start_allocation.Goals as goal
 
 pub returns : goal.returns
 unfolding no_pool
-returns c = let e = ap literals_in c.empty_pool.ensures in
+returns c = let e = ap literals_in c.empty.ensures in
     let l = ap length e in
     record {
       allocation = λ table. ap₂ (λ x y. record { scope = record { names = x; level = Level.outer; taken = 0 }; next = 0o1000; pool = y; ends = []; array = 16383 }) (none_alive table) e;

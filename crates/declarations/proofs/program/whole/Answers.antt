@@ -1,23 +1,28 @@
 use mathlib.Core.Path.{refl, ap, ◌∙◌}
-use Rattle.parser.specs.Reads.Reads.{fails}
 use mathlib.Core.List.{foldl}
 use Rattle.layout.specs.Allocation.{allocate, allocated}
-use Rattle.parser.proofs.ReadLaws.{came, failed_as, reads_as}
-use Rattle.declarations.proofs.ParseLaws.{gives_read}
+use Rattle.parser.specs.Reads.Reads.{read, fails}
+use Rattle.parser.proofs.Answers.{then_got, then_failed, gives_read, gives_failed}
+use Rattle.parser.proofs.ReadLaws.{came, failed_as}
 use Rattle.declarations.proofs.ProgramLaws.{program_begin, program_declarations, program_main, program_compiled}
 use Rattle.declarations.proofs.program.whole.Goals as goal
 
 pub returns-in_default : goal.returns-in_default
-returns-in_default c = fails (program_begin _ (failed_as c.opening-opened.ensures c.in_default.is)) c.in_default.is tt
+returns-in_default c = fails (program_begin _ (gives_failed (λ b. b) c.opening-opened.ensures c.unwrap_err.ensures)) refl tt
 
-pub returns-in_default-part : goal.returns-in_default-part
-returns-in_default-part c = fails (program_declarations _ (gives_read c.opening-opened.ensures c.in-Read.is) (failed_as c.declarations-all.ensures c.in_default-part.is)) c.in_default-part.is tt
+pub returns-in_default-all : goal.returns-in_default-all
+returns-in_default-all c = fails (program_declarations _ (gives_read (λ b. b) c.opening-opened.ensures c.in-Ok.is) (failed_as c.declarations-all.ensures c.unwrap_err-in_default-all.ensures)) refl tt
+
+pub returns-in_default-main : goal.returns-in_default-main
+unfolding allocated
+returns-in_default-main c = let r = came c.declarations-all.ensures c.in-Ok-all.is in
+    let starts = c.start_allocation-start.ensures.allocation c.args.table.now in
+    fails (program_main _ (gives_read (λ b. b) c.opening-opened.ensures c.in-Ok.is) r.is (r.holds.allocation ∙ ap (λ x. foldl allocate x r.tree) starts) ∙ then_failed _ (failed_as c.main_body-main.ensures c.unwrap_err-in_default-main.ensures)) refl tt
 
 pub returns : goal.returns
 unfolding allocated
-returns c = let r = came c.declarations-all.ensures c.in-Read-part.is in
-    let starts = c.start_allocation-allocation.ensures.allocation c.args.table.now in
-    let allocation = r.holds.allocation ∙ ap (λ x. foldl allocate x r.tree) starts in
-    reads_as (λ main. record { checked = c.opening-opened.result.checked; declarations = r.tree; main = main }) c.main_body-main.ensures refl
-    (program_main _ (gives_read c.opening-opened.ensures c.in-Read.is) r.is allocation)
-    (λ main d. program_compiled starts r.holds d) (λ w. w)
+returns c = let r = came c.declarations-all.ensures c.in-Ok-all.is in
+    let m = came c.main_body-main.ensures c.in-Ok-main.is in
+    let starts = c.start_allocation-start.ensures.allocation c.args.table.now in
+    read (program_main _ (gives_read (λ b. b) c.opening-opened.ensures c.in-Ok.is) r.is (r.holds.allocation ∙ ap (λ x. foldl allocate x r.tree) starts) ∙ then_got _ m.is) refl
+    (program_compiled starts r.holds m.holds)

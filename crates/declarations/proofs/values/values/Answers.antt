@@ -1,27 +1,29 @@
-use mathlib.Core.Path.{refl, ◌∙◌}
+use mathlib.Core.Path.{◌≡◌, refl, ap, ◌∙◌}
+use Rattle.source.specs.Tokens.{token_at}
 use mathlib.Core.List.{[]}
-use Rattle.declarations.proofs.ParseLaws.{gives_read}
-use Rattle.parser.proofs.ReadLaws.{list_first, list_failed, list_zero, list_last, list_next, failed_as}
-use Rattle.declarations.proofs.ArrayLaws.{none_filled, value_next, value_fails}
+use Prim.Native.Nat.{◌+◌, ◌-◌}
+use lib.ListN.{length}
+use native.Mathlib.Omega.{arith}
+use Rattle.parser.proofs.ReadLaws.{list_end, list_first, list_failed, list_last, list_next}
+use Rattle.declarations.proofs.ArrayLaws.{none_filled, value_next}
 use Rattle.declarations.proofs.values.values.Goals as goal
 
-pub loop-next-init : goal.loop-next-init
-loop-next-init c = (list_first _ _ _ [] _ (none_filled _ _ _), refl)
+pub loop-init : goal.loop-init
+loop-init c = let q : length c.args.reader.now.source.now - 0 ≡ length c.args.reader.now.source.now = omega arith in (rw q (list_first _ _ _ [] _ (none_filled _ _ _)), refl)
 
 pub returns-in_default : goal.returns-in_default
-returns-in_default c = let l = c.loop-next.invariant in list_failed l.0 (value_fails _ _ _ l.0.holds (failed_as c.initial_value-one.ensures c.in_default.is) c.in_default.is) c.in_default.is
-
-pub returns-then-left-eq0 : goal.returns-then-left-eq0
-returns-then-left-eq0 c = let l = c.loop-next.invariant in
-    let one = value_next _ _ _ l.0.holds (gives_read c.initial_value-one.ensures c.in-Read.is) refl c.store.ensures in
-    list_zero l.0 one refl c.if-left-eq0.true
+returns-in_default c = let l = c.loop.invariant in
+    rw c.in_default.is (list_failed l.0 (value_next _ _ _ l.0.holds c.stored_value-one.ensures) c.in_default.is (λ w. w))
 
 pub returns-then-t-ne-COMMA : goal.returns-then-t-ne-COMMA
-returns-then-t-ne-COMMA c = let l = c.loop-next.invariant in
-    let one = value_next _ _ _ l.0.holds (gives_read c.initial_value-one.ensures c.in-Read.is) refl c.store.ensures in
-    list_last l.0 one refl c.token_at-t.ensures c.if-t-ne-COMMA.true
+returns-then-t-ne-COMMA c = let l = c.loop.invariant in
+    rw c.in-Ok.is (list_last l.0 (value_next _ _ _ l.0.holds c.stored_value-one.ensures) c.in-Ok.is (c.token_at-t.ensures ∙ ap (λ p. token_at c.args.reader.now.source.now p.next) c.in-Ok.field-0-is) c.if-t-ne-COMMA.true)
 
-pub loop-next-preserved : goal.loop-next-preserved
-loop-next-preserved c = let l = c.loop-next.invariant in
-    let one = value_next _ _ _ l.0.holds (gives_read c.initial_value-one.ensures c.in-Read.is) c.in-Read.is c.store.ensures in
-    (list_next l.0 one c.in-Read.is c.token_at-t.ensures c.if-left-eq0.false c.if-t-ne-COMMA.false, c.store.auto.image ∙ l.1)
+pub loop-preserved : goal.loop-preserved
+loop-preserved c = let l = c.loop.invariant in
+    let q : length c.args.reader.now.source.now - c.loop.counter - 1 ≡ length c.args.reader.now.source.now - (c.loop.counter + 1) = omega arith in
+    (rw (c.in-Ok.field-0-is, ← q) (list_next l.0 (value_next _ _ _ l.0.holds c.stored_value-one.ensures) c.in-Ok.is (c.token_at-t.ensures ∙ ap (λ p. token_at c.args.reader.now.source.now p.next) c.in-Ok.field-0-is) (λ z. absurd (let h = c.loop-test.true in omega (arith, h, z))) c.if-t-ne-COMMA.false), c.stored_value-one.auto.image ∙ l.1)
+
+pub returns : goal.returns
+returns c = let l = c.loop.invariant in
+    list_end l.0 (value_next _ _ _ l.0.holds c.stored_value.ensures) (let h = c.loop-test.false in omega (arith, h))

@@ -1,5 +1,5 @@
-use Rattle.digits.proofs.Laws.{then}
+use Rattle.text.proofs.Laws.{and_then}
 use Rattle.report.proofs.globals.put_element.Goals as goal
 
 pub returns : goal.returns
-returns c = (then c.put_head-one.ensures (then c.put_signed-two.ensures c.put_end.ensures))
+returns c = and_then c.put_head.ensures (and_then c.signed.ensures c.put_end.ensures)

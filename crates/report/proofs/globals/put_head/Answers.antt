@@ -1,6 +1,6 @@
-use Rattle.digits.proofs.Laws.{then, same_text}
+use Rattle.text.proofs.Laws.{and_then, same_added}
 use Rattle.report.proofs.Laws.{row_starts}
 use Rattle.report.proofs.globals.put_head.Goals as goal
 
 pub returns : goal.returns
-returns c = same_text (row_starts _ _ _ c.if-column-ne0.false) (then c.put_name-one.ensures (then c.put_text-two.ensures (then c.put_decimal-three.ensures c.put_text-2.ensures)))
+returns c = same_added (row_starts _ _ _ c.if-column-ne0.false) (and_then c.put_name.ensures (and_then c.put-2.ensures (and_then c.decimal.ensures c.put-3.ensures)))

@@ -1,0 +1,36 @@
+use mathlib.Core.Path.{◌≡◌, refl, ap, ◌∙◌}
+use Rattle.source.specs.Tokens.{token_at}
+use mathlib.Core.List.{[]}
+use Prim.Native.Nat.{◌+◌, ◌-◌}
+use lib.ListN.{length}
+use native.Mathlib.Omega.{arith}
+use Rattle.parser.proofs.ReadLaws.{list_end, list_first, list_failed, list_last, list_next}
+use Rattle.declarations.proofs.AllocationLaws.{none_declared}
+use Rattle.declarations.proofs.ArrayLaws.{array_next}
+use Rattle.declarations.proofs.Allocation.array_list.Goals as goal
+
+pub loop-init : goal.loop-init
+loop-init c = let q : length c.args.source.now - 0 ≡ length c.args.source.now = omega arith in (rw q (list_first _ _ _ [] _ (λ ends. none_declared ends _ _ _ c.requires.0)), refl, refl)
+
+pub returns-in_default : goal.returns-in_default
+returns-in_default c = let l = c.loop.invariant in
+    rw c.in_default.is (list_failed l.0 (array_next _ _ _ l.0.holds c.array-one.ensures) c.in_default.is (λ w. w))
+
+pub returns-then-t-ne-COMMA : goal.returns-then-t-ne-COMMA
+returns-then-t-ne-COMMA c = let l = c.loop.invariant in
+    rw c.in-Ok.is (list_last l.0 (array_next _ _ _ l.0.holds c.array-one.ensures) c.in-Ok.is (c.token_at-t.ensures ∙ ap (λ p. token_at c.args.source.now p.next) c.in-Ok.field-0-is) c.if-t-ne-COMMA.true)
+
+pub loop-preserved : goal.loop-preserved
+loop-preserved c = let l = c.loop.invariant in
+    let q : length c.args.source.now - c.loop.counter - 1 ≡ length c.args.source.now - (c.loop.counter + 1) = omega arith in
+    (rw (c.in-Ok.field-0-is, ← q) (list_next l.0 (array_next _ _ _ l.0.holds c.array-one.ensures) c.in-Ok.is (c.token_at-t.ensures ∙ ap (λ p. token_at c.args.source.now p.next) c.in-Ok.field-0-is) (λ z. absurd (let h = c.loop-test.true in omega (arith, h, z))) c.if-t-ne-COMMA.false), c.array-one.auto.table ∙ l.1, c.array-one.auto.image ∙ l.2)
+
+pub returns : goal.returns
+returns c = let l = c.loop.invariant in
+    list_end l.0 (array_next _ _ _ l.0.holds c.array.ensures) (let h = c.loop-test.false in omega (arith, h))
+
+pub array-one-requires : goal.array-one-requires
+array-one-requires c = let l = c.loop.invariant in let p = c.requires.1 in ((l.0.holds (λ _. 0)).sound, omega (arith, p, l.1))
+
+pub array-requires : goal.array-requires
+array-requires c = let l = c.loop.invariant in let p = c.requires.1 in ((l.0.holds (λ _. 0)).sound, omega (arith, p, l.1))

@@ -1,0 +1,20 @@
+use mathlib.Core.Path.{refl, ◌∙◌}
+use Rattle.parser.specs.Reads.Reads.{read, fails}
+use Rattle.grammar.specs.Declarations.{parse_list}
+use Rattle.parser.proofs.Answers.{then_got, then_failed, gives_read, gives_failed}
+use Rattle.parser.proofs.ReadLaws.{came, failed_as}
+use Rattle.declarations.proofs.Scope.items.Goals as goal
+
+pub returns-in_default : goal.returns-in_default
+unfolding parse_list
+returns-in_default c = fails (then_failed _ (failed_as c.item_list-list.ensures c.in_default.is)) c.in_default.is tt
+
+pub returns-in_default-end : goal.returns-in_default-end
+unfolding parse_list
+returns-in_default-end c = let r = came c.item_list-list.ensures c.in-Ok.is in
+    fails (then_got _ r.is ∙ then_failed _ (gives_failed (λ t. t) c.expect-end.ensures c.unwrap_err.ensures)) refl tt
+
+pub returns : goal.returns
+unfolding parse_list
+returns c = let r = came c.item_list-list.ensures c.in-Ok.is in
+    read (then_got _ r.is ∙ then_got _ (gives_read (λ t. t) c.expect-end.ensures c.in-Ok-end.is)) refl r.holds

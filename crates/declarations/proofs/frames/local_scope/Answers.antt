@@ -1,7 +1,0 @@
-use Rattle.symbols.specs.Trees.{tree_symbol}
-use Rattle.declarations.proofs.ProcedureLaws.{inner_is}
-use Rattle.declarations.proofs.frames.local_scope.Goals as goal
-
-pub returns : goal.returns
-unfolding tree_symbol
-returns c = inner_is c.args.allocation _ _ _ c.requires.1 c.requires.2 c.declare.auto.table c.declare.ensures
