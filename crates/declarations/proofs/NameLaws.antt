@@ -7,6 +7,7 @@ use borrow.Author.Tests.{eq-eqb, ne_eqb, le-leb, lt-leb, le-ltb, lt-ltb, leb-fal
 use lib.Dec.{eqb, leb}
 use lib.ListN.{length}
 use Rattle.prelude.specs.Choice.{whether}
+use Rattle.source.specs.Kinds.{kind_number}
 use Rattle.source.specs.Kinds
 use Rattle.source.specs.declared.Token.{Token}
 use Rattle.source.specs.Tokens.{token_at, name_of}
@@ -56,7 +57,7 @@ module _ (source : List ℕ) (scope : Scope) (limit : ℕ) where
       go false b c = refl
 
   -- what is no name fails with 6, whatever its characters
-  is_six : (t : Token) → eqb t.kind Kinds.name ≡ false → (name other : Name) → judged t name ≡ judged t other
+  is_six : (t : Token) → eqb (kind_number t.kind) Kinds.name ≡ false → (name other : Name) → judged t name ≡ judged t other
   unfolding within name_failure
   is_six t k name other = rw k
 
@@ -66,11 +67,11 @@ module _ (source : List ℕ) (scope : Scope) (limit : ℕ) where
   new_is at {t} {p} e q =
       let u = token_at source at in
       new_within u
-      ∙ sym (go (eqb u.kind Kinds.name) refl)
+      ∙ sym (go (eqb (kind_number u.kind) Kinds.name) refl)
       ∙ ap (λ x. judged x (unpack p)) (sym e)
       ∙ sym (within_then (name_failure scope limit t (unpack p)) t (got t t.next) (λ _ n. got (unpack p) n))
     where
-      go : (b : Bool) → eqb (token_at source at).kind Kinds.name ≡ b → judged (token_at source at) (unpack p) ≡ judged (token_at source at) (name_of source (token_at source at))
+      go : (b : Bool) → eqb (kind_number (token_at source at).kind) Kinds.name ≡ b → judged (token_at source at) (unpack p) ≡ judged (token_at source at) (name_of source (token_at source at))
       go true k = ap (judged (token_at source at)) (ap unpack (q ∙ ap (λ x. pack_of (name_of source x)) e) ∙ name_unpacked source at k)
       go false k = is_six (token_at source at) k _ _
 
