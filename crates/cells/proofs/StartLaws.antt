@@ -10,6 +10,10 @@ use lib.Dec.{eqb}
 use lib.ListN.{length}
 use borrow.Author.Tests.{eq-eqb, ne_eqb, eqb-false}
 use Rattle.prelude.specs.Choice.{whether, given, find}
+use Rattle.source.specs.Kinds.{kind_number}
+use Rattle.source.specs.declared.kind.Kind.{Kind as TokenKind}
+use Rattle.source.specs.declared.kind.Kind.TheVariants as Kind
+use Rattle.source.proofs.KindLaws.{apart}
 use Rattle.source.specs.Kinds
 use Rattle.source.specs.declared.Token.{Token}
 use Rattle.tree.specs.Symbols.{Names}
@@ -21,16 +25,19 @@ use Rattle.grammar.specs.Expressions.{term_start, too_deep_expr}
 use Rattle.cells.specs.Starts.{opening}
 
 pub no_opening :
-    (t : Token) → (t.kind ≡ Kinds.at → ⊥) → (t.kind ≡ Kinds.hash → ⊥) → (t.kind ≡ Kinds.IF → ⊥) → (t.kind ≡ Kinds.WHEN → ⊥)
-    → (t.kind ≡ Kinds.WHILE → ⊥) → (t.kind ≡ Kinds.FOR → ⊥) → (t.kind ≡ Kinds.BEGIN → ⊥) → opening t ≡ refuse t
+    (t : Token) → (t.kind ≡ Kind.At → ⊥) → (t.kind ≡ Kind.Hash → ⊥) → (t.kind ≡ Kind.If → ⊥) → (t.kind ≡ Kind.When → ⊥)
+    → (t.kind ≡ Kind.While → ⊥) → (t.kind ≡ Kind.For → ⊥) → (t.kind ≡ Kind.Begin → ⊥) → opening t ≡ refuse t
 unfolding opening find
 no_opening t a h i w l f b =
-    simp (ne_eqb _ _ a, ne_eqb _ _ h, ne_eqb _ _ i, ne_eqb _ _ w, ne_eqb _ _ l, ne_eqb _ _ f, ne_eqb _ _ b)
+    simp (other Kind.At a, other Kind.Hash h, other Kind.If i, other Kind.When w, other Kind.While l, other Kind.For f, other Kind.Begin b)
+  where
+    other : (kind : TokenKind) → (t.kind ≡ kind → ⊥) → eqb (kind_number t.kind) (kind_number kind) ≡ false
+    other kind n = ne_eqb _ _ (apart t.kind kind n)
 
 -- so it fails as a token that nothing begins with
 pub refused_opening :
-    (t : Token) → {k at : ℕ} → refuse {A = ℕ} t ≡ Got.failed k at → (t.kind ≡ Kinds.at → ⊥) → (t.kind ≡ Kinds.hash → ⊥) → (t.kind ≡ Kinds.IF → ⊥) → (t.kind ≡ Kinds.WHEN → ⊥)
-    → (t.kind ≡ Kinds.WHILE → ⊥) → (t.kind ≡ Kinds.FOR → ⊥) → (t.kind ≡ Kinds.BEGIN → ⊥) → opening t ≡ Got.failed k at
+    (t : Token) → {k at : ℕ} → refuse {A = ℕ} t ≡ Got.failed k at → (t.kind ≡ Kind.At → ⊥) → (t.kind ≡ Kind.Hash → ⊥) → (t.kind ≡ Kind.If → ⊥) → (t.kind ≡ Kind.When → ⊥)
+    → (t.kind ≡ Kind.While → ⊥) → (t.kind ≡ Kind.For → ⊥) → (t.kind ≡ Kind.Begin → ⊥) → opening t ≡ Got.failed k at
 refused_opening t e a h i w l f b = no_opening t a h i w l f b ∙ refused_any t e
 
 -- ---- Rows whose keys count from a number on
@@ -62,14 +69,14 @@ module _ {A B : Type 0} (x : B) (g : Unit {0} → B) (k : ℕ) where
 -- ---- A level too many
 
 module _ (source : List ℕ) (names : Names) (t : Token) where
-  pub deep_if : t.kind ≡ Kinds.IF → too_deep_expr source names t ≡ fail_at t 9
+  pub deep_if : kind_number t.kind ≡ Kinds.IF → too_deep_expr source names t ≡ fail_at t 9
   unfolding too_deep_expr
-  deep_if h = rw (eq-eqb t.kind Kinds.IF h)
+  deep_if h = rw (eq-eqb (kind_number t.kind) Kinds.IF h)
 
-  pub deep_unary : (t.kind ≡ Kinds.IF → ⊥) → Kinds.ADDC ≤ t.kind → t.kind < Kinds.ADDC + length unaries → too_deep_expr source names t ≡ fail_at t 9
+  pub deep_unary : (kind_number t.kind ≡ Kinds.IF → ⊥) → Kinds.ADDC ≤ (kind_number t.kind) → (kind_number t.kind) < Kinds.ADDC + length unaries → too_deep_expr source names t ≡ fail_at t 9
   unfolding too_deep_expr
-  deep_unary n l h = rw (ne_eqb t.kind Kinds.IF n) (in_rows _ _ t.kind counted_unaries l h)
+  deep_unary n l h = rw (ne_eqb (kind_number t.kind) Kinds.IF n) (in_rows _ _ (kind_number t.kind) counted_unaries l h)
 
-  pub deep_term : (t.kind ≡ Kinds.IF → ⊥) → (t.kind < Kinds.ADDC) ⊎ (Kinds.ADDC + length unaries ≤ t.kind) → too_deep_expr source names t ≡ and_then (term_start source names t) (λ _ _. fail_at t 9)
+  pub deep_term : (kind_number t.kind ≡ Kinds.IF → ⊥) → ((kind_number t.kind) < Kinds.ADDC) ⊎ (Kinds.ADDC + length unaries ≤ (kind_number t.kind)) → too_deep_expr source names t ≡ and_then (term_start source names t) (λ _ _. fail_at t 9)
   unfolding too_deep_expr
-  deep_term n o = rw (ne_eqb t.kind Kinds.IF n) (out_of_rows _ _ t.kind counted_unaries o)
+  deep_term n o = rw (ne_eqb (kind_number t.kind) Kinds.IF n) (out_of_rows _ _ (kind_number t.kind) counted_unaries o)

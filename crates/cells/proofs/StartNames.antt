@@ -9,6 +9,7 @@ use borrow.Author.Tests.{eqb-true}
 use types.Run.{OneOf, miss}
 use denote.Enum.Declared.{tag_of}
 use Rattle.prelude.specs.Choice.{whether, given}
+use Rattle.source.specs.Kinds.{kind_number}
 use Rattle.source.specs.Kinds
 use Rattle.source.specs.declared.Token.{Token}
 use Rattle.source.specs.Tokens.{name_of}
@@ -29,7 +30,7 @@ module _ {A : Type 0} (kind : symbols.Symbol → Option A) (u : kind symbols.Sym
   -- no definition asks for a name that is unknown, or that a numeral may stand for: each asks for the symbol at a token
   pub name_as_lem : ((v : ℕ) → kind (symbols.Symbol.compconstant v) ≡ none) → (source : List ℕ) (names : Names) (t : Token) → name_as source names kind t ≡ kind (symbol_at source names t)
   unfolding name_as symbol_by
-  name_as_lem n source names t = go (is Kinds.numeral t) (is Kinds.name t) (λ h. rw (eqb-true t.kind Kinds.numeral h))
+  name_as_lem n source names t = go (is Kinds.numeral t) (is Kinds.name t) (λ h. rw (eqb-true (kind_number t.kind) Kinds.numeral h))
     where
       go : (b c : Bool) → (b ≡ true → c ≡ false)
           → whether c (λ _. kind (symbol_of names (name_of source t))) (λ _. none)

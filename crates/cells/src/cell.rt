@@ -9,7 +9,8 @@ ghost use Rattle.cells.specs.Answers.{live, tree_cell_start};
 
 use crate::{CellStart, Reader};
 use parser::{Cause, Part, Read, expect, fail_at, refused};
-use source::{Token, kind, operator_at, token_at};
+use source::kind::Kind;
+use source::{Token, operator_at, token_at};
 use symbols::{Cell, Operand, Subscript, Symbol};
 
 // A token as an operand, by what it stands for (E1).
@@ -57,7 +58,7 @@ impl Reader<'_> {
         ensures { Gives tree_subscript result (subscript_of self.now.source.now (live self.now) (token_at self.now.source.now at)) }
     {
         let t = token_at(self.source, at);
-        if t.kind == kind::HASH {
+        if t.kind == Kind::Hash {
             return Ok(Part {
                 value: Subscript::Hash,
                 next: t.next,
@@ -78,7 +79,7 @@ impl Reader<'_> {
     pub fn subscript_at(&self, at: usize) -> Read<Subscript>
         ensures { Gives tree_subscript result (parse_subscript self.now.source.now (live self.now) at) }
     {
-        let open = expect(self.source, kind::LEFT_BRACKET, at);
+        let open = expect(self.source, Kind::LeftBracket, at);
         let Ok(Part { value: _, next }) = open else {
             return Err(open.unwrap_err());
         };
@@ -86,7 +87,7 @@ impl Reader<'_> {
         let Ok(Part { value, next }) = read else {
             return read;
         };
-        let close = expect(self.source, kind::RIGHT_BRACKET, next);
+        let close = expect(self.source, Kind::RightBracket, next);
         let Ok(Part { value: _, next }) = close else {
             return Err(close.unwrap_err());
         };
@@ -146,7 +147,7 @@ impl Reader<'_> {
             return read;
         };
         let t = operator_at(self.source, next);
-        if t.kind == kind::MINUS_SIGN {
+        if t.kind == Kind::MinusSign {
             return Err(fail_at(t, Cause::NotAllowed));
         }
         read

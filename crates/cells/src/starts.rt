@@ -12,7 +12,8 @@ ghost use Rattle.cells.specs.Answers.{live, tree_term_start, tree_statement_star
 use crate::cell::cell_start_of;
 use crate::{Reader, StatementStart, TermStart};
 use parser::{Cause, Failure, Part, Read, fail_at, refused};
-use source::{Token, kind, token_at};
+use source::kind::Kind;
+use source::{Token, token_at};
 use symbols::Symbol;
 
 // A term that is a call or begins like a cell, by what its first token stands for.
@@ -43,13 +44,13 @@ fn opening_of(t: Token) -> Read<StatementStart>
     ensures { Gives tree_statement_start result (opening t) }
 {
     let value = match t.kind {
-        kind::AT => StatementStart::Accumulator,
-        kind::HASH => StatementStart::Hash,
-        kind::IF => StatementStart::If,
-        kind::WHEN => StatementStart::When,
-        kind::WHILE => StatementStart::While,
-        kind::FOR => StatementStart::For,
-        kind::BEGIN => StatementStart::Compound,
+        Kind::At => StatementStart::Accumulator,
+        Kind::Hash => StatementStart::Hash,
+        Kind::If => StatementStart::If,
+        Kind::When => StatementStart::When,
+        Kind::While => StatementStart::While,
+        Kind::For => StatementStart::For,
+        Kind::Begin => StatementStart::Compound,
         _ => return Err(refused(t)),
     };
     Ok(Part {
@@ -66,9 +67,9 @@ impl Reader<'_> {
     {
         let t = token_at(self.source, at);
         let value = match t.kind {
-            kind::AT => TermStart::Accumulator,
-            kind::ZERO => TermStart::Zero,
-            kind::LEFT_PARENTHESIS => TermStart::Bracket,
+            Kind::At => TermStart::Accumulator,
+            Kind::Zero => TermStart::Zero,
+            Kind::LeftParenthesis => TermStart::Bracket,
             _ => return named_term_of(t, self.names.lookup(self.source, t)),
         };
         Ok(Part {
@@ -84,8 +85,8 @@ impl Reader<'_> {
     {
         let t = token_at(self.source, at);
         match t.kind {
-            kind::IF => fail_at(t, Cause::TooDeep),
-            kind::ADDC..=kind::ABS => fail_at(t, Cause::TooDeep),
+            Kind::If => fail_at(t, Cause::TooDeep),
+            kind if kind.is_between(Kind::Addc, Kind::Abs) => fail_at(t, Cause::TooDeep),
             _ => {
                 let read = self.term_start_at(at);
                 let Ok(Part { value: _, next: _ }) = read else {

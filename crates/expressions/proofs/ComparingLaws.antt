@@ -9,6 +9,7 @@ use native.Mathlib.Omega.{arith}
 use lib.Dec.{eqb}
 use lib.ListN.{length}
 use Rattle.prelude.specs.Choice.{find, given}
+use Rattle.source.specs.Kinds.{kind_number}
 use Rattle.source.specs.declared.Token.{Token}
 use Rattle.source.specs.Tokens.{token_at, failure_at}
 use Rattle.instruction.specs.Opcode.{CAS}
@@ -49,18 +50,18 @@ module _ {f : Bases} {kind : ℕ} {a : Emitted} {after : List ℕ} {r : Result (
   related_read i k =
       let v = came h i in record { tests = λ q. read (then_got _ v.is) refl (same_forward (λ at z. refl) (after_words v.holds (k.forward f q))) }
 
-module _ (source : List ℕ) (names : Names) (at : ℕ) (t : Token) (e : t ≡ token_at source at) {b : Bool} (related : b ≡ stands_in relations t.kind) {f : Bases} {a : Emitted} where
-  pub relation_compared : {after : List ℕ} {r : Result (Part Guarded) Failure} → b ≡ true → Compares f t.kind a after r (parse_lone_cell source names t.next) → Tests f comparison_words a after r (comparison_of source names (token_at source at))
+module _ (source : List ℕ) (names : Names) (at : ℕ) (t : Token) (e : t ≡ token_at source at) {b : Bool} (related : b ≡ stands_in relations (kind_number t.kind)) {f : Bases} {a : Emitted} where
+  pub relation_compared : {after : List ℕ} {r : Result (Part Guarded) Failure} → b ≡ true → Compares f (kind_number t.kind) a after r (parse_lone_cell source names t.next) → Tests f comparison_words a after r (comparison_of source names (token_at source at))
   unfolding comparison_of
   relation_compared h k =
-      let row = standing relations t.kind related h in reads_on (ap (comparison_of source names) (sym e) ∙ as_standing relations t _ _ row) (k.tests row.found)
+      let row = standing relations (kind_number t.kind) related h in reads_on (ap (comparison_of source names) (sym e) ∙ as_standing relations t _ _ row) (k.tests row.found)
 
-  module _ (no : b ≡ false) {s : Found ℕ} (tested : s ≡ looked_up tests test_slot t.kind) where
+  module _ (no : b ≡ false) {s : Found ℕ} (tested : s ≡ looked_up tests test_slot (kind_number t.kind)) where
     pub test_read : {n : ℕ} {after : List ℕ} {j : Guarded} → s ≡ Some n → AlwaysForwardJump a (emitted_by j.output after) (λ at z. Sym.generic n ∷ Sym.jump z ∷ []) j.hole
         → Tests f comparison_words a after (Ok (record { value = j; next = t.next })) (comparison_of source names (token_at source at))
     unfolding comparison_of comparison_words
     test_read h k =
-        let r = as_row tests test_slot t.kind tested h in
+        let r = as_row tests test_slot (kind_number t.kind) tested h in
         read (ap (comparison_of source names) (sym e) ∙ (not_standing relations t _ _ related no ∙ as_some tests test_slot t _ _ r)) refl
         (same_forward (λ at z. ap (λ x. Sym.generic x ∷ Sym.jump z ∷ []) r.is) (k.forward f))
 
@@ -80,7 +81,7 @@ cond_then (failed m at) h e k q = refl
 module _ (source : List ℕ) (names : Names) where
   cond_from_lem : (e : Expr) (t : Token) → cond_from source names e t ≡ and_then (comparison_of source names t) (λ c n. got (cond_of e c) n)
   unfolding cond_from comparison_of cond_of and_then fail_at
-  cond_from_lem e t = go (find (eqb t.kind) relations) (find (eqb t.kind) tests)
+  cond_from_lem e t = go (find (eqb (kind_number t.kind)) relations) (find (eqb (kind_number t.kind)) tests)
     where
       cell : Got Cell
       cell = parse_lone_cell source names t.next
@@ -100,7 +101,7 @@ cond_words_lem e (Comparison.relation r c) at z =
     ap (λ x. expr_words e at ⧺ cell_words CAS c ⧺ control_words x z (controls r)) end
 cond_words_lem e (Comparison.test t) at z = refl
 
-module _ (source : List ℕ) (names : Names) (expr : ℕ → Got Expr) (at : ℕ) (t : Token) (e : t ≡ token_at source at) {b : Found ℕ} (alone : b ≡ looked_up bares bare_slot t.kind) where
+module _ (source : List ℕ) (names : Names) (expr : ℕ → Got Expr) (at : ℕ) (t : Token) (e : t ≡ token_at source at) {b : Found ℕ} (alone : b ≡ looked_up bares bare_slot (kind_number t.kind)) where
   not_bare : b ≡ None → parse_cond source names expr at ≡ and_then (expr at) (λ e n. cond_from source names e (token_at source n))
   unfolding parse_cond
   not_bare h =
@@ -110,7 +111,7 @@ module _ (source : List ℕ) (names : Names) (expr : ℕ → Got Expr) (at : ℕ
       → Tests f cond_words a after (Ok (record { value = j; next = t.next })) (parse_cond source names expr at)
   unfolding parse_cond cond_words
   bare_read {f} h k =
-      let r = as_row bares bare_slot t.kind alone h in
+      let r = as_row bares bare_slot (kind_number t.kind) alone h in
       read (ap (λ x. as_one_of bares x (λ b. got (Cond.bare b) x.next) (λ _. and_then (expr at) (λ e n. cond_from source names e (token_at source n)))) (sym e) ∙ as_some bares bare_slot t _ _ r) refl
       (same_forward (λ at z. ap (λ x. Sym.generic x ∷ Sym.jump z ∷ []) r.is) (k.forward f))
 

@@ -6,6 +6,7 @@ use mathlib.Core.List.{List, [], ◌∷◌}
 use native.Mathlib.Omega.{arith}
 use borrow.Author.Tests.{eq-eqb, ne_eqb}
 use lib.ListN.{length, get_or}
+use Rattle.source.specs.Kinds.{kind_number}
 use Rattle.source.specs.Kinds
 use Rattle.source.specs.declared.Token.{Token}
 use Rattle.source.specs.Tokens.{token_at}
@@ -64,20 +65,20 @@ module _ (source : List ℕ) (names : Names) (inner : ℕ → Got Expr) (at : �
   bracketed_closed k = let v = came h i in read (then_got _ v.is ∙ then_got _ (gives_read (λ t. t) g k)) refl v.holds
 
 module _ (source : List ℕ) (names : Names) (inner : ℕ → Got Expr) (p at : ℕ) (t : Token) (e : t ≡ token_at source at) where
-  call_alone : (t.kind ≡ Kinds.left_parenthesis → ⊥) → parse_call source names inner (Term.call p) (Term.call_with p) at ≡ got (Term.call p) at
+  call_alone : (kind_number t.kind ≡ Kinds.left_parenthesis → ⊥) → parse_call source names inner (Term.call p) (Term.call_with p) at ≡ got (Term.call p) at
   unfolding parse_call
-  call_alone n = rw (← e, ne_eqb t.kind Kinds.left_parenthesis n)
+  call_alone n = rw (← e, ne_eqb (kind_number t.kind) Kinds.left_parenthesis n)
 
-  call_with_lem : t.kind ≡ Kinds.left_parenthesis → parse_call source names inner (Term.call p) (Term.call_with p) at ≡ and_then (parse_bracketed source names inner t.next) (λ e next. got (Term.call_with p e) next)
+  call_with_lem : kind_number t.kind ≡ Kinds.left_parenthesis → parse_call source names inner (Term.call p) (Term.call_with p) at ≡ and_then (parse_bracketed source names inner t.next) (λ e next. got (Term.call_with p e) next)
   unfolding parse_call
-  call_with_lem n = rw (← e, eq-eqb t.kind Kinds.left_parenthesis n)
+  call_with_lem n = rw (← e, eq-eqb (kind_number t.kind) Kinds.left_parenthesis n)
 
-  pub called_alone : {f : Bases} {a : Emitted} {o : Output} {after : List ℕ} → (t.kind ≡ Kinds.left_parenthesis → ⊥) → emitted_by o after ≡ with_word a (reference JST true (0o200 + p))
+  pub called_alone : {f : Bases} {a : Emitted} {o : Output} {after : List ℕ} → (kind_number t.kind ≡ Kinds.left_parenthesis → ⊥) → emitted_by o after ≡ with_word a (reference JST true (0o200 + p))
       → Compiles f term_words a after (Ok (record { value = o; next = at })) (parse_call source names inner (Term.call p) (Term.call_with p) at)
   unfolding term_words
   called_alone {f} n h = read (call_alone n) refl (leaves.call f p h)
 
-  module _ {f : Bases} {a : Emitted} {after : List ℕ} {r : Answer} (n : t.kind ≡ Kinds.left_parenthesis) (h : Compiles f expr_words a after r (parse_bracketed source names inner t.next)) where
+  module _ {f : Bases} {a : Emitted} {after : List ℕ} {r : Answer} (n : kind_number t.kind ≡ Kinds.left_parenthesis) (h : Compiles f expr_words a after r (parse_bracketed source names inner t.next)) where
     pub call_failed : {e : Failure} → r ≡ Err e → Compiles f term_words a after r (parse_call source names inner (Term.call p) (Term.call_with p) at)
     call_failed i = failing _ h i (call_with_lem n) (λ w. w)
 
@@ -230,12 +231,12 @@ sub_one : (n : ℕ) → suc n - 1 ≡ n
 sub_one n = omega arith
 
 module _ (source : List ℕ) (names : Names) (at : ℕ) (t : Token) (e : t ≡ token_at source at) where
-  pub is_choice : (left : ℕ) → (left ≡ 0 → ⊥) → t.kind ≡ Kinds.IF → parse_expr source names left at ≡ parse_choice source names (parse_expr source names (left - 1)) t.next
+  pub is_choice : (left : ℕ) → (left ≡ 0 → ⊥) → kind_number t.kind ≡ Kinds.IF → parse_expr source names left at ≡ parse_choice source names (parse_expr source names (left - 1)) t.next
   unfolding parse_expr
   is_choice zero n k = absurd (n refl)
-  is_choice (suc left) n k = rw (← e, eq-eqb t.kind Kinds.IF k, sub_one left)
+  is_choice (suc left) n k = rw (← e, eq-eqb (kind_number t.kind) Kinds.IF k, sub_one left)
 
-  pub is_chain : (left : ℕ) → (left ≡ 0 → ⊥) → (t.kind ≡ Kinds.IF → ⊥) → parse_expr source names left at ≡ parse_chain source names (parse_expr source names (left - 1)) at
+  pub is_chain : (left : ℕ) → (left ≡ 0 → ⊥) → (kind_number t.kind ≡ Kinds.IF → ⊥) → parse_expr source names left at ≡ parse_chain source names (parse_expr source names (left - 1)) at
   unfolding parse_expr
   is_chain zero n k = absurd (n refl)
-  is_chain (suc left) n k = rw (← e, ne_eqb t.kind Kinds.IF k, sub_one left)
+  is_chain (suc left) n k = rw (← e, ne_eqb (kind_number t.kind) Kinds.IF k, sub_one left)

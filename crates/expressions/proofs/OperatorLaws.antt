@@ -9,6 +9,7 @@ use native.Mathlib.Omega.{arith}
 use lib.Dec.{eqb}
 use borrow.Author.Tests.{ne_eqb}
 use Rattle.prelude.specs.Choice.{between, find, given, whether}
+use Rattle.source.specs.Kinds.{kind_number}
 use Rattle.source.specs.Kinds
 use Rattle.source.specs.declared.Token.{Token}
 use Rattle.word.specs.Shift.{LRS, LLS}
@@ -91,19 +92,19 @@ operator_is : (kind n : ℕ) (o : Operator) (c : Cell) → n ≡ operator_opcode
 unfolding operator_words operation_words
 operator_is kind n o c e b a = rw (e, b, a)
 
-module _ (source : List ℕ) (names : Names) (t : Token) {o : Found ℕ} (e : o ≡ looked_up operators operator_opcode t.kind) {f : Bases} {output : Output} {before : List ℕ} where
-  pub binary_turn : {after : List ℕ} {r : Result (Part Output) Failure} {n : ℕ} → o ≡ Some n → Compiles f (λ c _. operator_words t.kind n c) (emitted_by output before) after r (parse_cell source names t.next) → Turned f output before after (Some r) (operation_at source names t)
+module _ (source : List ℕ) (names : Names) (t : Token) {o : Found ℕ} (e : o ≡ looked_up operators operator_opcode (kind_number t.kind)) {f : Bases} {output : Output} {before : List ℕ} where
+  pub binary_turn : {after : List ℕ} {r : Result (Part Output) Failure} {n : ℕ} → o ≡ Some n → Compiles f (λ c _. operator_words (kind_number t.kind) n c) (emitted_by output before) after r (parse_cell source names t.next) → Turned f output before after (Some r) (operation_at source names t)
   unfolding operation_at
   binary_turn {n = n} h p =
-      let row = as_row operators operator_opcode t.kind e h in
+      let row = as_row operators operator_opcode (kind_number t.kind) e h in
       Turned.one (as_some operators operator_opcode t _ _ row) refl
-      (as_tree (Operation.binary row.row.1) (λ c at. operator_is t.kind n row.row.1 c row.is (before_found t.kind row.found) (after_found t.kind row.found)) p refl)
+      (as_tree (Operation.binary row.row.1) (λ c at. operator_is (kind_number t.kind) n row.row.1 c row.is (before_found (kind_number t.kind) row.found) (after_found (kind_number t.kind) row.found)) p refl)
 
-  module _ (no : o ≡ None) {s : Found ℕ} (i : s ≡ looked_up shifts shift_kind t.kind) where
+  module _ (no : o ≡ None) {s : Found ℕ} (i : s ≡ looked_up shifts shift_kind (kind_number t.kind)) where
     pub shift_turn : {after : List ℕ} {r : Result (Part Output) Failure} {n : ℕ} → s ≡ Some n → Compiles f (λ m _. Sym.shift n m ∷ []) (emitted_by output before) after r (parse_in_range source names (between 1 15) t.next) → Turned f output before after (Some r) (operation_at source names t)
     unfolding operation_at operation_words
     shift_turn h p =
-        let row = as_row shifts shift_kind t.kind i h in
+        let row = as_row shifts shift_kind (kind_number t.kind) i h in
         Turned.one (as_none operators operator_opcode t _ _ e no ∙ as_some shifts shift_kind t _ _ row) refl (as_tree (Operation.shift row.row.1) (λ m at. ap (λ x. Sym.shift x m ∷ []) row.is) p refl)
 
     pub no_turn : s ≡ None → Turned f output before before None (operation_at source names t)
@@ -133,7 +134,7 @@ module _ (source : List ℕ) (names : Names) where
 
   one_more : (done : List Operation) (t : Token) → operation_of source names done t ≡ given (operation_at source names t) (λ g. some (added done g)) (λ _. none)
   unfolding operation_of operation_at added and_then
-  one_more done t = go (find (eqb t.kind) operators) (find (eqb t.kind) shifts)
+  one_more done t = go (find (eqb (kind_number t.kind)) operators) (find (eqb (kind_number t.kind)) shifts)
     where
       cell : Got Cell
       cell = parse_cell source names t.next

@@ -12,6 +12,7 @@ use lib.ListN.{length, set, length-append}
 use lib.Seq.{sets, set_comm}
 use borrow.Author.Tests.{eqb-true}
 use Rattle.prelude.specs.Choice.{whether, find, given}
+use Rattle.source.specs.Kinds.{kind_number}
 use Rattle.source.specs.declared.Token.{Token}
 use Rattle.source.specs.Tokens.{token_at}
 use Rattle.tree.specs.Tree.{Unary}
@@ -36,13 +37,13 @@ use Rattle.expressions.proofs.VocabularyLaws.{Row, as_row, as_some, as_none}
 
 module _ (source : List ℕ) where
   -- where a token is none, they end
-  no_more : {r : Found ℕ} (k i : ℕ) → r ≡ looked_up unaries last_slot (token_at source i).kind → r ≡ None → unaries_by source k i ≡ ([], i)
+  no_more : {r : Found ℕ} (k i : ℕ) → r ≡ looked_up unaries last_slot (kind_number (token_at source i).kind) → r ≡ None → unaries_by source k i ≡ ([], i)
   unfolding unaries_by
   no_more zero i e h = refl
   no_more (suc k) i e h =
       as_none unaries last_slot (token_at source i) (λ u. let rest = unaries_by source k (token_at source i).next in (u ∷ rest.0, rest.1)) (λ _. ([], i)) e h
 
-  one_more : {n : ℕ} (k i : ℕ) (r : Row unaries last_slot (token_at source i).kind n)
+  one_more : {n : ℕ} (k i : ℕ) (r : Row unaries last_slot (kind_number (token_at source i).kind) n)
       → unaries_by source (suc k) i ≡ (r.row.1 ∷ (unaries_by source k (token_at source i).next).0, (unaries_by source k (token_at source i).next).1)
   unfolding unaries_by
   one_more k i r =
@@ -52,7 +53,7 @@ module _ (source : List ℕ) where
   read_on : (names : Names) (k : ℕ) (done : List Unary) (n : ℕ) → repeat_by (more_unaries source names) k done n ≡ got (done ++ (unaries_by source k n).0) (unaries_by source k n).1
   unfolding repeat_by unaries_by and_then
   read_on names zero done n = rw append-nil
-  read_on names (suc k) done n = go (find (eqb (token_at source n).kind) unaries) (read_on names k)
+  read_on names (suc k) done n = go (find (eqb (kind_number (token_at source n).kind)) unaries) (read_on names k)
     where
       next : ℕ
       next = (token_at source n).next
@@ -217,7 +218,7 @@ none_stored source k i place l e = ap (λ x. sets l (place - length (unaries_wor
 pub record Turn (source : List ℕ) (t : Token) (n k i : ℕ) : Type 0 where
   pub unary : Unary
   pub slot : n ≡ last_slot unary
-  pub is : Instructions t.kind unary
+  pub is : Instructions (kind_number t.kind) unary
   pub next : (unaries_by source k i).1 ≡ (unaries_by source (k - 1) t.next).1
   pub come : to_come source k i ≡ to_come source (k - 1) t.next ⧺ unary_words unary
 
@@ -228,14 +229,14 @@ module _ (source : List ℕ) where
   runs_out zero i h = refl
   runs_out (suc k) i h = absurd (omega (arith, h))
 
-  module _ {t : Token} {r : Found ℕ} (k i : ℕ) (at : t ≡ token_at source i) (number : r ≡ looked_up unaries last_slot t.kind) where
+  module _ {t : Token} {r : Found ℕ} (k i : ℕ) (at : t ≡ token_at source i) (number : r ≡ looked_up unaries last_slot (kind_number t.kind)) where
     pub stops : r ≡ None → unaries_by source k i ≡ ([], i)
-    stops e = no_more source k i (number ∙ ap (λ x. looked_up unaries last_slot x.kind) at) e
+    stops e = no_more source k i (number ∙ ap (λ x. looked_up unaries last_slot (kind_number x.kind)) at) e
 
     pub turns : {n : ℕ} → 0 < k → r ≡ Some n → Turn source t n k i
     unfolding unaries_words
     turns {n} h e = rw at (
-        let r = as_row unaries last_slot (token_at source i).kind (number ∙ ap (λ x. looked_up unaries last_slot x.kind) at) e in
+        let r = as_row unaries last_slot (kind_number (token_at source i).kind) (number ∙ ap (λ x. looked_up unaries last_slot (kind_number x.kind)) at) e in
         let l : k ≡ suc (k - 1) = omega (arith, h) in
         let m = ap (λ x. unaries_by source x i) l ∙ one_more source (k - 1) i r in
         record {
@@ -247,7 +248,7 @@ module _ (source : List ℕ) where
         })
 
 -- what one turn of each loop does
-module _ {source : List ℕ} {t : Token} {n k i : ℕ} (turn : Turn source t n k i) {w : ℕ} (e : w ≡ width_of t.kind) where
+module _ {source : List ℕ} {t : Token} {n k i : ℕ} (turn : Turn source t n k i) {w : ℕ} (e : w ≡ width_of (kind_number t.kind)) where
   size : length (to_come source k i) ≡ length (to_come source (k - 1) t.next) + w
   size =
       let a = ap length turn.come in
@@ -265,7 +266,7 @@ module _ {source : List ℕ} {t : Token} {n k i : ℕ} (turn : Turn source t n k
   pub still_room : {place : ℕ} → length (to_come source k i) ≤ place → length (to_come source (k - 1) t.next) ≤ place - w
   still_room h = let s = size in omega (arith, s, h)
 
-  pub places : (l : List ℕ) {place : ℕ} {image : List ℕ} → length (to_come source k i) ≤ place → image ≡ sets l (place - w) (unary_values t.kind n)
+  pub places : (l : List ℕ) {place : ℕ} {image : List ℕ} → length (to_come source k i) ≤ place → image ≡ sets l (place - w) (unary_values (kind_number t.kind) n)
       → sets image (place - w - length (to_come source (k - 1) t.next)) (values (to_come source (k - 1) t.next)) ≡ sets l (place - length (to_come source k i)) (values (to_come source k i))
   places l {place} {image} h q =
       rw (q, turn.slot, turn.is.words, turn.come)

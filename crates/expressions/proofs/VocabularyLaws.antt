@@ -9,6 +9,7 @@ use borrow.Author.Tests.{ne_eqb}
 use lib.Dec.{eqb}
 use Rattle.std.specs.Prelude.{Option, Some, None}
 use Rattle.prelude.specs.Choice.{find, given}
+use Rattle.source.specs.Kinds.{kind_number}
 use Rattle.source.specs.Kinds
 use Rattle.source.specs.declared.Token.{Token}
 use Rattle.grammar.specs.Vocabulary.{unaries, operators, shifts, relations, tests, bares, as_one_of}
@@ -35,12 +36,12 @@ module _ {A : Type 0} (table : List (ℕ × A)) (number : A → ℕ) where
       go none q k = absurd (no_some (sym k))
       go (some r) q k = record { row = r; is = cc; found = q }
 
-  pub as_some : {B : Type 0} {n : ℕ} (t : Token) (f : A → B) (g : Unit {0} → B) (r : Row t.kind n) → as_one_of table t f g ≡ f r.row.1
+  pub as_some : {B : Type 0} {n : ℕ} (t : Token) (f : A → B) (g : Unit {0} → B) (r : Row (kind_number t.kind) n) → as_one_of table t f g ≡ f r.row.1
   as_some t f g r = ap (λ o. given o (λ row. f row.1) g) r.found
 
-  pub as_none : {B : Type 0} (t : Token) (f : A → B) (g : Unit {0} → B) {r : Option ℕ} → r ≡ looked_up table number t.kind → r ≡ None → as_one_of table t f g ≡ g tt
+  pub as_none : {B : Type 0} (t : Token) (f : A → B) (g : Unit {0} → B) {r : Option ℕ} → r ≡ looked_up table number (kind_number t.kind) → r ≡ None → as_one_of table t f g ≡ g tt
   unfolding looked_up
-  as_none {B} t f g e h = go (find (eqb t.kind) table) (sym h ∙ e)
+  as_none {B} t f g e h = go (find (eqb (kind_number t.kind)) table) (sym h ∙ e)
     where
       go : (o : Found (ℕ × A)) → None ≡ given o (λ row. Some (number row.1)) (λ _. None) → given o (λ row. f row.1) g ≡ g tt
       go none k = refl
@@ -60,12 +61,12 @@ module _ {A : Type 0} (table : List (ℕ × A)) where
       go none q k = absurd (let z : ◌≡◌ {A = ℕ} 0 1 = cc in omega (arith, z))
       go (some r) q k = record { row = r; found = q }
 
-  pub as_standing : {B : Type 0} (t : Token) (f : A → B) (g : Unit {0} → B) (r : Standing t.kind) → as_one_of table t f g ≡ f r.row.1
+  pub as_standing : {B : Type 0} (t : Token) (f : A → B) (g : Unit {0} → B) (r : Standing (kind_number t.kind)) → as_one_of table t f g ≡ f r.row.1
   as_standing t f g r = ap (λ o. given o (λ row. f row.1) g) r.found
 
-  pub not_standing : {B : Type 0} (t : Token) (f : A → B) (g : Unit {0} → B) {b : Bool} → b ≡ stands_in table t.kind → b ≡ false → as_one_of table t f g ≡ g tt
+  pub not_standing : {B : Type 0} (t : Token) (f : A → B) (g : Unit {0} → B) {b : Bool} → b ≡ stands_in table (kind_number t.kind) → b ≡ false → as_one_of table t f g ≡ g tt
   unfolding stands_in
-  not_standing {B} t f g e h = go (find (eqb t.kind) table) (sym h ∙ e)
+  not_standing {B} t f g e h = go (find (eqb (kind_number t.kind)) table) (sym h ∙ e)
     where
       go : (o : Found (ℕ × A)) → false ≡ given o (λ _. true) (λ _. false) → given o (λ row. f row.1) g ≡ g tt
       go none k = refl

@@ -1,4 +1,5 @@
 // What follows a condition's expression: a relation and its cell, or a test.
+ghost use Rattle.source.specs.Kinds.{kind_number};
 ghost use Rattle.expressions.specs.Chains.{comparison_words};
 ghost use Rattle.expressions.specs.Compiles.{Decides, DecidesComparison, comparison_at, lone_cell_at};
 
@@ -11,7 +12,7 @@ use source::{Token, token_at};
 impl Body<'_> {
     // A relation's cell and the relation's words, after the relation.
     fn related(&self, image: &mut [u16], output: Output, t: Token) -> Read<Guarded>
-        ensures { DecidesComparison t.kind self.now output image.old image.new result (lone_cell_at self.now t.next) }
+        ensures { DecidesComparison (kind_number t.kind) self.now output image.old image.new result (lone_cell_at self.now t.next) }
     {
         let read = self.reader.lone_cell_at(t.next);
         let compared = self.emit_read(image, output, opcode::CAS, read);

@@ -13,7 +13,8 @@ use cells::{Reader, TermStart};
 use emitter::{Context, Output, emit_cell, emit_generic, emit_through, fill_jump};
 use instruction::{opcode, slot};
 use parser::{Part, Read, expect};
-use source::{kind, token_at};
+use source::kind::Kind;
+use source::token_at;
 use symbols::Cell;
 
 mod comparing;
@@ -65,7 +66,7 @@ impl Body<'_> {
         let Ok(Part { value, next }) = inner else {
             return inner;
         };
-        let close = expect(self.reader.source, kind::RIGHT_PARENTHESIS, next);
+        let close = expect(self.reader.source, Kind::RightParenthesis, next);
         let Ok(Part { value: _, next }) = close else {
             return Err(close.unwrap_err());
         };
@@ -85,7 +86,7 @@ impl Body<'_> {
         ensures { Does term_words self.now output image.old image.new result (call_at self.now left number at) }
     {
         let t = token_at(self.reader.source, at);
-        if t.kind != kind::LEFT_PARENTHESIS {
+        if t.kind != Kind::LeftParenthesis {
             return Ok(Part {
                 value: emit_through(image, output, opcode::JST, number),
                 next: at,
@@ -201,7 +202,7 @@ impl Body<'_> {
         else {
             return Err(test.unwrap_err());
         };
-        let then = expect(self.reader.source, kind::THEN, next);
+        let then = expect(self.reader.source, Kind::Then, next);
         let Ok(Part { value: _, next }) = then else {
             return Err(then.unwrap_err());
         };
@@ -225,7 +226,7 @@ impl Body<'_> {
     fn alternative(&self, image: &mut [u16], jump: Guarded, at: usize, left: usize) -> Read<Output>
         ensures { DoesThenFills jump.hole expr_words self.now jump.output image.old image.new result (else_at self.now left at) }
     {
-        let otherwise = expect(self.reader.source, kind::ELSE, at);
+        let otherwise = expect(self.reader.source, Kind::Else, at);
         let Ok(Part { value: _, next }) = otherwise else {
             return Err(otherwise.unwrap_err());
         };
@@ -252,7 +253,7 @@ impl Body<'_> {
             return Err(self.reader.too_deep_at(at));
         }
         let t = token_at(self.reader.source, at);
-        if t.kind == kind::IF {
+        if t.kind == Kind::If {
             return self.choice(image, output, t.next, left - 1);
         }
         self.chain(image, output, at, left - 1)

@@ -1,4 +1,5 @@
 // Operations: an operator and its cell, or a shift and its amount, one after another.
+ghost use Rattle.source.specs.Kinds.{kind_number};
 ghost use Rattle.std.specs.Prelude.{[], ◌∷◌};
 ghost use Rattle.layout.specs.Words.{Sym, plain_words, operations_words};
 ghost use Rattle.tree.specs.Tree.{Cell as CellDef};
@@ -13,27 +14,28 @@ use crate::{Body, vocabulary};
 use emitter::{Output, emit_generic, emit_instruction, emit_reach, emit_shift};
 use instruction::slot;
 use parser::{Part, Read};
-use source::{Token, kind, operator_at};
+use source::kind::Kind;
+use source::{Token, operator_at};
 use symbols::Cell;
 use word::shift;
 
 // Before a division, that is for `/` and `.MOD`, LRS makes a double value of A; by the kind of the operator's token (W18).
-fn emit_before(image: &mut [u16], output: Output, kind: u16) -> Output
-    ensures { AlwaysEmits (plain_words (before_by kind)) output image.old result image.new }
+fn emit_before(image: &mut [u16], output: Output, kind: Kind) -> Output
+    ensures { AlwaysEmits (plain_words (before_by (kind_number kind))) output image.old result image.new }
 {
-    if kind == kind::SLASH || kind == kind::MOD {
-        return emit_shift(image, output, shift::LRS, 15);
+    match kind {
+        Kind::Slash | Kind::Mod => emit_shift(image, output, shift::LRS, 15),
+        _ => output,
     }
-    output
 }
 
 // After a product LLS brings it into A, after a division IAB the remainder for `.MOD` (W18).
-fn emit_after(image: &mut [u16], output: Output, kind: u16) -> Output
-    ensures { AlwaysEmits (plain_words (after_by kind)) output image.old result image.new }
+fn emit_after(image: &mut [u16], output: Output, kind: Kind) -> Output
+    ensures { AlwaysEmits (plain_words (after_by (kind_number kind))) output image.old result image.new }
 {
     match kind {
-        kind::STAR => emit_shift(image, output, shift::LLS, 15),
-        kind::MOD => emit_generic(image, output, slot::IAB),
+        Kind::Star => emit_shift(image, output, shift::LLS, 15),
+        Kind::Mod => emit_generic(image, output, slot::IAB),
         _ => output,
     }
 }
@@ -44,11 +46,11 @@ impl Body<'_> {
         &self,
         image: &mut [u16],
         output: Output,
-        kind: u16,
+        kind: Kind,
         opcode: u16,
         read: Read<Cell>,
     ) -> Read<Output>
-        ensures { (g : Got CellDef) → Gives tree_cell read g → Does (λ c _. operator_words kind opcode c) self.now output image.old image.new result g }
+        ensures { (g : Got CellDef) → Gives tree_cell read g → Does (λ c _. operator_words (kind_number kind) opcode c) self.now output image.old image.new result g }
     {
         let Ok(Part { value: cell, next }) = read else {
             return Err(read.unwrap_err());

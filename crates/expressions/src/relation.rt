@@ -1,4 +1,5 @@
 // The words that end a condition: a test or what follows a relation's CAS, with the jump that is taken where it fails.
+ghost use Rattle.source.specs.Kinds.{kind_number};
 ghost use Rattle.std.specs.Prelude.{[], ◌∷◌};
 ghost use Rattle.source.specs.Kinds;
 ghost use Rattle.layout.specs.Words.{Sym};
@@ -7,7 +8,7 @@ ghost use Rattle.expressions.specs.Compiles.{AlwaysDecides, PutsHole, DecidesRel
 use crate::Guarded;
 use emitter::{Output, emit_generic, emit_jump, fill_jump};
 use instruction::slot;
-use source::kind;
+use source::kind::Kind;
 
 // A jump whose target is filled in later.
 pub fn emit_hole(image: &mut [u16], output: Output) -> Guarded
@@ -51,15 +52,15 @@ fn emit_at_most(image: &mut [u16], output: Output) -> Guarded
 
 // The words of a relation after its CAS, by its token's kind (W7).
 #[tactic(auto, using(crate::proofs::RelationLaws::for_emit_relation))]
-pub(crate) fn emit_relation(image: &mut [u16], output: Output, kind: u16) -> Guarded
-    ensures { DecidesRelation kind output image.old image.new result }
+pub(crate) fn emit_relation(image: &mut [u16], output: Output, kind: Kind) -> Guarded
+    ensures { DecidesRelation (kind_number kind) output image.old image.new result }
 {
     match kind {
-        kind::GREATER => emit_greater(image, output),
-        kind::AT_MOST => emit_at_most(image, output),
-        kind::NOT_EQUAL => emit_test(image, output, slot::SKP),
-        kind::LESS => emit_test(image, output, slot::NOP),
-        kind::EQUAL => {
+        Kind::Greater => emit_greater(image, output),
+        Kind::AtMost => emit_at_most(image, output),
+        Kind::NotEqual => emit_test(image, output, slot::SKP),
+        Kind::Less => emit_test(image, output, slot::NOP),
+        Kind::Equal => {
             let after_skip = emit_generic(image, output, slot::SKP);
             emit_test(image, after_skip, slot::SKP)
         }

@@ -1,5 +1,6 @@
 // Unary words. They stand before the term and their instructions after it, the last word's first (W4), so they are read twice:
 // to go past them, and to emit them from the end. Each is a loop of its own, since a closure for all would have to carry the image's loan.
+ghost use Rattle.source.specs.Kinds.{kind_number};
 ghost use Rattle.std.specs.Prelude.{◌≡◌, ◌+◌, ◌≤◌, min, length};
 ghost use Rattle.std.proofs.lemmas.List.Edits.{sets};
 ghost use Rattle.layout.specs.Emission.{last_address};
@@ -10,7 +11,8 @@ ghost use Rattle.expressions.specs.Unaries.{width_of, unary_values, unary_words_
 use crate::vocabulary::unary;
 use emitter::{LAST_ADDRESS, Output, generic_word, store};
 use instruction::slot;
-use source::{kind, token_at};
+use source::kind::Kind;
+use source::token_at;
 
 // The offset after them. The turns are counted, as in the definition: each word takes a byte or more.
 #[tactic(auto, using(crate::proofs::UnaryLaws::for_unaries_next), unfolding(crate::specs::Chains::unaries_next))]
@@ -28,10 +30,10 @@ pub fn unaries_next(source: &[u8], at: usize) -> usize
 
 // How many instructions a unary word has.
 #[tactic(auto, unfolding(crate::specs::Unaries::width_of))]
-fn width(kind: u16) -> u16
-    ensures { result ≡ width_of kind }
+fn width(kind: Kind) -> u16
+    ensures { result ≡ width_of (kind_number kind) }
 {
-    if kind == kind::ABS { 2 } else { 1 }
+    if kind == Kind::Abs { 2 } else { 1 }
 }
 
 // An address so many words on, up to the last.
@@ -59,12 +61,12 @@ fn unaries_end(source: &[u8], at: usize, start: u16) -> u16
 
 // The instructions of one word from an address on, by its kind and its last slot.
 #[tactic(auto, unfolding(crate::specs::Unaries::unary_values))]
-fn place_unary(image: &mut [u16], at: usize, kind: u16, last: usize)
+fn place_unary(image: &mut [u16], at: usize, kind: Kind, last: usize)
     requires { at ≤ last_address }
-    ensures { image.new ≡ sets image.old at (unary_values kind last) }
+    ensures { image.new ≡ sets image.old at (unary_values (kind_number kind) last) }
 {
     let word = generic_word(last);
-    if kind == kind::ABS {
+    if kind == Kind::Abs {
         store(image, at, generic_word(slot::SPL));
         store(image, at + 1, word);
         return;

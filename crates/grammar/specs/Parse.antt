@@ -2,6 +2,7 @@
 use Rattle.std.specs.Prelude.{ℕ, zero, suc, Bool, List, [], ◌∷◌, ◌++◌, length, eqb}
 use Rattle.std.proofs.Math.Option.{Option, none, some}
 use Rattle.prelude.specs.Choice.{whether, given}
+use Rattle.source.specs.Kinds.{kind_number}
 use Rattle.source.specs.declared.Token.{Token}
 use Rattle.source.specs.Tokens.{token_at, failure_at}
 use Rattle.layout.specs.Limits.{no_failure}
@@ -25,7 +26,7 @@ unfoldable pub within : {A : Type 0} → ℕ → Token → Got A → Got A
 within limit t g = whether (eqb limit no_failure) (λ _. g) (λ _. fail_at t limit)
 
 abbrev pub is : ℕ → Token → Bool
-is kind t = eqb t.kind kind
+is kind t = eqb (kind_number t.kind) kind
 
 -- the token of a kind; any other is 6, a name and the end of the source too (J6, F6)
 unfoldable pub expect : ℕ → List ℕ → ℕ → Got Token

@@ -2,6 +2,7 @@
 use Rattle.std.specs.Prelude.{ℕ, List, [], ◌∷◌, eqb}
 use Rattle.prelude.specs.Choice.{find, given}
 use Rattle.source.specs.Kinds
+use Rattle.source.specs.Kinds.{kind_number}
 use Rattle.source.specs.declared.Token.{Token}
 use Rattle.tree.specs.Tree.{Unary, Operator, Shift, Relation, Test, Bare}
 
@@ -42,4 +43,4 @@ bares =
 
 -- what a token stands for in such a table goes to the first of two, else the second is computed
 abbrev pub as_one_of : {A B : Type 0} → List (ℕ × A) → Token → (A → B) → (Unit {0} → B) → B
-as_one_of table t f g = given (find (eqb t.kind) table) (λ row. f row.1) g
+as_one_of table t f g = given (find (eqb (kind_number t.kind)) table) (λ row. f row.1) g

@@ -7,6 +7,7 @@ use mathlib.Core.Option.{Option, none, some}
 use native.Mathlib.Omega.{arith}
 use lib.ListN.{length}
 use borrow.Author.Tests.{eq-eqb, ne_eqb}
+use Rattle.source.specs.Kinds.{kind_number}
 use Rattle.source.specs.declared.Token.{Token}
 use Rattle.source.specs.Tokens.{token_at}
 use Rattle.grammar.specs.Parse.{Got, and_then, repeat_by, repeat, more_separated, separated}
@@ -132,11 +133,11 @@ module _ {A B X : Type 0} {source : List ℕ} {separator : ℕ} {more : B → �
     list_zero z = let one = came h i in read (l.same ∙ then_got _ one.is ∙ repeat_zero (more_separated source separator (λ a. more (sofar a))) one.tree p.next z) refl one.holds
 
     module _ {t : Token} (k : t ≡ token_at source p.next) where
-      pub list_last : {kept' : Type 0} → (t.kind ≡ separator → ⊥) → Reads held' kept' (Ok p) w
+      pub list_last : {kept' : Type 0} → (kind_number t.kind ≡ separator → ⊥) → Reads held' kept' (Ok p) w
       list_last n =
           let one = came h i in read (l.same ∙ then_got _ one.is ∙ repeat_none (more_separated source separator (λ a. more (sofar a))) one.tree p.next left (rw (← k, ne_eqb _ _ n))) refl one.holds
 
-      pub sequel_next : {held'' : B → Type 0} → ((a : A) → held' a p.value → held'' (sofar a)) → (left ≡ 0 → ⊥) → t.kind ≡ separator → Sequel source separator more sofar w held'' t.next (left - 1)
+      pub sequel_next : {held'' : B → Type 0} → ((a : A) → held' a p.value → held'' (sofar a)) → (left ≡ 0 → ⊥) → kind_number t.kind ≡ separator → Sequel source separator more sofar w held'' t.next (left - 1)
       sequel_next so z n =
           let one = came h i in
           record {
@@ -152,6 +153,6 @@ list_end {source = source} {separator} {more} {sofar} l (read {t} {n = n} i q d)
 list_end l (fails i q k) z = fails (l.same ∙ then_failed _ i) q k
 
 pub list_next : {A X : Type 0} {source : List ℕ} {separator : ℕ} {more : A → ℕ → Got A} {w : Got A} {held : A → Type 0} {held' : A → X → Type 0} {kept : Type 0} {from left : ℕ} (l : Listing source separator more w held from left)
-    {r : Result (Part X) Failure} → Reads held' kept r (more l.done from) → {p : Part X} → r ≡ Ok p → {t : Token} → t ≡ token_at source p.next → (left ≡ 0 → ⊥) → t.kind ≡ separator
+    {r : Result (Part X) Failure} → Reads held' kept r (more l.done from) → {p : Part X} → r ≡ Ok p → {t : Token} → t ≡ token_at source p.next → (left ≡ 0 → ⊥) → kind_number t.kind ≡ separator
     → Listing source separator more w (λ a. held' a p.value) t.next (left - 1)
 list_next l h i k z n = sequel_next l h i k (λ a d. d) z n

@@ -1,6 +1,7 @@
 // What every function that reads a part of the source is made of: the part, the token that must stand there, and failures.
 #![tactic(auto)]
 
+ghost use Rattle.source.specs.Kinds.{kind_number};
 ghost use Rattle.std.specs.Prelude.{◌≡◌, ℕ, min};
 ghost use Rattle.source.specs.Tokens.{token_at, failure_at};
 ghost use Rattle.grammar.specs.Parse.{expect as expect_def};
@@ -8,7 +9,8 @@ ghost use Rattle.grammar.specs.Cells.{refuse};
 ghost use Rattle.parser.specs.Failures.{number_of, cause_of, Fails};
 ghost use Rattle.parser.specs.Reads.{Gives};
 
-use source::{Token, kind, token_at};
+use source::kind::Kind;
+use source::{Token, token_at};
 
 /// What a source fails by, each with its number (F1 to F14): `number` and `specs/Failures` say which.
 #[derive(Clone, Copy, Debug, PartialEq, Eq)]
@@ -116,8 +118,8 @@ fn cause_at(t: Token, cause: Cause) -> Cause
     ensures { number_of result ≡ failure_at t (number_of cause) }
 {
     match t.kind {
-        kind::UNKNOWN => lower(Cause::UnknownByte, cause),
-        kind::OUT_OF_RANGE => lower(Cause::OutOfRange, cause),
+        Kind::Unknown => lower(Cause::UnknownByte, cause),
+        Kind::OutOfRange => lower(Cause::OutOfRange, cause),
         _ => cause,
     }
 }
@@ -135,8 +137,8 @@ pub fn fail_at(t: Token, cause: Cause) -> Failure
 
 /// The token of a kind, or failure 6 (J6).
 #[tactic(auto, unfolding(grammar::specs::Parse::expect, grammar::specs::Parse::fail_at))]
-pub fn expect(source: &[u8], kind: u16, at: usize) -> Read<Token>
-    ensures { Gives (λ t. t) result (expect_def kind source.now at) }
+pub fn expect(source: &[u8], kind: Kind, at: usize) -> Read<Token>
+    ensures { Gives (λ t. t) result (expect_def (kind_number kind) source.now at) }
 {
     let t = token_at(source, at);
     if t.kind == kind {
@@ -153,7 +155,7 @@ pub fn expect(source: &[u8], kind: u16, at: usize) -> Read<Token>
 pub fn refused(t: Token) -> Failure
     ensures { Fails {A = ℕ} result (refuse t) }
 {
-    if t.kind == kind::NAME {
+    if t.kind == Kind::Name {
         return fail_at(t, Cause::WrongName);
     }
     fail_at(t, Cause::NotAllowed)

@@ -10,6 +10,7 @@ use lib.Dec.{eqb, leb, ltb}
 use lib.ListN.{length}
 use borrow.Author.Tests.{eqb-true}
 use Rattle.prelude.specs.Choice.{whether, find, given, between}
+use Rattle.source.specs.Kinds.{kind_number}
 use Rattle.source.specs.Kinds
 use Rattle.source.specs.declared.Token.{Token}
 use Rattle.source.specs.Tokens.{token_at, operator_at, name_of}
@@ -179,7 +180,7 @@ module _ (source : List ℕ) where
     separators done at h =
         let t = token_at source at in
         choice (Some (Takes source at)) (is separator t) _ _
-        (λ i. there (taken source h (token_lies source at) (λ z. omega (arith, eqb-true t.kind separator i)) (parts done t.next (token source h).inside)))
+        (λ i. there (taken source h (token_lies source at) (λ z. omega (arith, eqb-true (kind_number t.kind) separator i)) (parts done t.next (token source h).inside)))
         (λ i. nothing)
 
     list : {first : ℕ → Got A} → Forward source first → Forward source (separated source separator first more)

@@ -10,6 +10,9 @@ use Rattle.prelude.specs.Choice.{whether}
 use Rattle.prelude.specs.Text.{bytes}
 use Rattle.source.specs.Bytes.{is_letter, is_digit, is_octal_digit, is_letter_or_digit, is_blank, span, same_bytes}
 use Rattle.source.specs.Kinds
+use Rattle.source.specs.Kinds.{kind_number}
+use Rattle.source.specs.declared.kind.Kind.{Kind}
+use Rattle.source.specs.declared.kind.Kind.TheVariants.{EndOfSource, Numeral, OutOfRange, Quote, MinusSign}
 use Rattle.source.specs.Keywords.{keyword_length}
 use Rattle.source.specs.declared.Token.{Token}
 use Rattle.source.specs.Tokens.{token, number, constant_token, decimal_token, negative_token, octal_token, keyword_token, token_of, operator_of, after_blanks, token_at, operator_at}
@@ -20,9 +23,9 @@ pub record Lies (s : List ℕ) (at : ℕ) (t : Token) : Type 0 where
   pub from : at ≤ t.at
   pub inside : at ≤ length s → t.next ≤ length s
   pub forward : t.at ≤ t.next
-  pub wide : (t.kind ≡ Kinds.end_of_source → ⊥) → t.at < t.next
+  pub wide : (kind_number t.kind ≡ Kinds.end_of_source → ⊥) → t.at < t.next
 
-wide : (kind value at width n : ℕ) → 0 < width → width ≤ n → Wide at n (token kind value at width)
+wide : (kind : Kind) (value at width n : ℕ) → 0 < width → width ≤ n → Wide at n (token kind value at width)
 wide kind value at width n h k = record { here = refl; some = omega arith; fits = omega arith }
 
 -- of two, both of which are so
@@ -33,14 +36,14 @@ either false f g h k = k
 constant_wide : (m limit word at width n : ℕ) → 0 < width → width ≤ n → Wide at n (constant_token m limit word at width)
 unfolding constant_token
 constant_wide m limit word at width n h k =
-    either (leb m limit) (λ _. token Kinds.numeral word at width) (λ _. token Kinds.out_of_range 0 at width) (wide _ _ at width n h k) (wide _ _ at width n h k)
+    either (leb m limit) (λ _. token Numeral word at width) (λ _. token OutOfRange 0 at width) (wide _ _ at width n h k) (wide _ _ at width n h k)
 
 one_more : (p : ℕ → Bool) (bs : List ℕ) → suc (span p bs) ≤ suc (length bs)
 one_more p bs = omega (arith, most p bs)
 
 -- the sign alone where no digit follows, else a constant
 alone :
-    (p : ℕ → Bool) (bs : List ℕ) (kind m limit word at : ℕ)
+    (p : ℕ → Bool) (bs : List ℕ) (kind : Kind) (m limit word at : ℕ)
     → Wide at (suc (length bs)) (whether (eqb (span p bs) 0) (λ _. token kind 0 at 1) (λ _. constant_token m limit word at (suc (span p bs))))
 alone p bs kind m limit word at =
     either (eqb (span p bs) 0) (λ _. token kind 0 at 1) (λ _. constant_token m limit word at (suc (span p bs)))
@@ -74,11 +77,11 @@ of_wide b bs at = letter (is_letter b) refl
     point l d m q false e = rw (l, d, m, q, e) (sign_wide b bs at)
 
     quote : is_letter b ≡ false → is_digit b ≡ false → eqb b 45 ≡ false → (t : Bool) → eqb b 39 ≡ t → Wide at (suc (length bs)) (token_of (b ∷ bs) at)
-    quote l d m true e = rw (l, d, m, e) (alone is_octal_digit bs Kinds.quote (number 8 0 (take (span is_octal_digit bs) bs)) 65535 (number 8 0 (take (span is_octal_digit bs) bs)) at)
+    quote l d m true e = rw (l, d, m, e) (alone is_octal_digit bs Quote (number 8 0 (take (span is_octal_digit bs) bs)) 65535 (number 8 0 (take (span is_octal_digit bs) bs)) at)
     quote l d m false e = point l d m e (eqb b 46) refl
 
     minus : is_letter b ≡ false → is_digit b ≡ false → (t : Bool) → eqb b 45 ≡ t → Wide at (suc (length bs)) (token_of (b ∷ bs) at)
-    minus l d true e = rw (l, d, e) (alone is_digit bs Kinds.minus (number 10 0 (take (span is_digit bs) bs)) 32768 ((65536 - number 10 0 (take (span is_digit bs) bs)) % 65536) at)
+    minus l d true e = rw (l, d, e) (alone is_digit bs MinusSign (number 10 0 (take (span is_digit bs) bs)) 32768 ((65536 - number 10 0 (take (span is_digit bs) bs)) % 65536) at)
     minus l d false e = quote l d e (eqb b 39) refl
 
     digit : is_letter b ≡ false → (t : Bool) → is_digit b ≡ t → Wide at (suc (length bs)) (token_of (b ∷ bs) at)
@@ -92,11 +95,11 @@ of_wide b bs at = letter (is_letter b) refl
 operator_wide : (b : ℕ) (bs : List ℕ) (at : ℕ) → Wide at (suc (length bs)) (operator_of (b ∷ bs) at)
 unfolding operator_of
 operator_wide b bs at =
-    either (eqb b 45) (λ _. token Kinds.minus 0 at 1) (λ _. token_of (b ∷ bs) at) (wide _ _ at 1 _ (omega arith) (omega arith)) (of_wide b bs at)
+    either (eqb b 45) (λ _. token MinusSign 0 at 1) (λ _. token_of (b ∷ bs) at) (wide _ _ at 1 _ (omega arith) (omega arith)) (of_wide b bs at)
 
 -- after the blanks, for both ways to take a token
 module _
-    (f : List ℕ → ℕ → Token) (none : (at : ℕ) → f [] at ≡ token Kinds.end_of_source 0 at 0)
+    (f : List ℕ → ℕ → Token) (none : (at : ℕ) → f [] at ≡ token EndOfSource 0 at 0)
     (some : (b : ℕ) (bs : List ℕ) (at : ℕ) → Wide at (suc (length bs)) (f (b ∷ bs) at)) where
   from_rest : (s : List ℕ) (at i : ℕ) (l : List ℕ) → at ≤ i → (at ≤ length s → i + length l ≤ length s) → Lies s at (f l i)
   from_rest s at i [] h k = rw none (record { from = h; inside = λ q. omega (arith, k q); forward = omega arith; wide = λ n. absurd (n refl) })

@@ -5,6 +5,7 @@ pub mod Numbers
 pub mod Constants
 pub mod Signs
 pub mod Same
+pub mod KindLaws
 pub mod Tables
 pub mod Widths
 pub mod Choices

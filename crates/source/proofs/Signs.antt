@@ -8,25 +8,26 @@ use lib.Dec.{eqb, ltb, ltb→lt, T}
 use lib.ListN.{length}
 use Rattle.prelude.specs.Choice.{whether, given, find}
 use Rattle.source.specs.Bytes.{starts_with}
-use Rattle.source.specs.Kinds
+use Rattle.source.specs.declared.kind.Kind.{Kind}
+use Rattle.source.specs.declared.kind.Kind.TheVariants.{Unknown}
 use Rattle.source.specs.declared.Token.{Token}
 use Rattle.source.specs.Tokens.{token, signs, sign_token}
 use Rattle.source.proofs.Tests.{and_left, and_right}
 
 -- no row is empty
-abbrev all_some : List (List ℕ × ℕ) → Bool
+abbrev all_some : List (List ℕ × Kind) → Bool
 all_some [] = true
 all_some (r ∷ rs) = ltb 0 (length r.0) && all_some rs
 
 -- the token of the first of some signs that bytes start with
-unfoldable sign_in : List (List ℕ × ℕ) → List ℕ → ℕ → Token
-sign_in rows bs at = given (find (λ sign. starts_with sign bs) rows) (λ row. token row.1 0 at (length row.0)) (λ _. token Kinds.unknown 0 at 1)
+unfoldable sign_in : List (List ℕ × Kind) → List ℕ → ℕ → Token
+sign_in rows bs at = given (find (λ sign. starts_with sign bs) rows) (λ row. token row.1 0 at (length row.0)) (λ _. token Unknown 0 at 1)
 
-found : (row : List ℕ × ℕ) (rows : List (List ℕ × ℕ)) (bs : List ℕ) (at : ℕ) → starts_with row.0 bs ≡ true → sign_in (row ∷ rows) bs at ≡ token row.1 0 at (length row.0)
+found : (row : List ℕ × Kind) (rows : List (List ℕ × Kind)) (bs : List ℕ) (at : ℕ) → starts_with row.0 bs ≡ true → sign_in (row ∷ rows) bs at ≡ token row.1 0 at (length row.0)
 unfolding sign_in find
 found row rows bs at e = rw e
 
-other : (row : List ℕ × ℕ) (rows : List (List ℕ × ℕ)) (bs : List ℕ) (at : ℕ) → starts_with row.0 bs ≡ false → sign_in (row ∷ rows) bs at ≡ sign_in rows bs at
+other : (row : List ℕ × Kind) (rows : List (List ℕ × Kind)) (bs : List ℕ) (at : ℕ) → starts_with row.0 bs ≡ false → sign_in (row ∷ rows) bs at ≡ sign_in rows bs at
 unfolding sign_in find
 other row rows bs at e = rw e
 
@@ -49,7 +50,7 @@ pub record Wide (at most : ℕ) (t : Token) : Type 0 where
   pub some : at < t.next
   pub fits : t.next ≤ at + most
 
-wide_in : (rows : List (List ℕ × ℕ)) → T (all_some rows) → (b : ℕ) (bs : List ℕ) (at : ℕ) → Wide at (suc (length bs)) (sign_in rows (b ∷ bs) at)
+wide_in : (rows : List (List ℕ × Kind)) → T (all_some rows) → (b : ℕ) (bs : List ℕ) (at : ℕ) → Wide at (suc (length bs)) (sign_in rows (b ∷ bs) at)
 unfolding sign_in find
 wide_in [] t b bs at = record { here = refl; some = omega arith; fits = omega arith }
 wide_in (row ∷ rows) t b bs at = go (starts_with row.0 (b ∷ bs)) refl (wide_in rows (and_right (ltb 0 (length row.0)) (all_some rows) t) b bs at)

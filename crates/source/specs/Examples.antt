@@ -4,6 +4,7 @@ use Rattle.prelude.specs.Choice.{whether, find}
 use Rattle.prelude.specs.Text.{bytes}
 use Rattle.source.specs.Bytes.{span, same_bytes, starts_with}
 use Rattle.source.specs.Kinds
+use Rattle.source.specs.Kinds.{kind_number, kinds, kind_of}
 use Rattle.source.specs.Keywords.{keywords, keyword_length, keyword_kind}
 use Rattle.source.specs.Tokens.{number, constant_token, decimal_token, negative_token, octal_token, keyword_token, sign_token, token_of, after_blanks, token_at, spelling, name_of}
 
@@ -16,7 +17,7 @@ from n (suc k) = n ∷ from (suc n) k
 kinds_differ :
     (Kinds.end_of_source ∷ Kinds.unknown ∷ Kinds.out_of_range ∷ Kinds.name ∷ Kinds.numeral ∷ Kinds.semicolon ∷ Kinds.comma ∷ Kinds.equal ∷ Kinds.not_equal ∷ Kinds.less ∷ Kinds.greater ∷ Kinds.at_most ∷
     Kinds.at_least ∷ Kinds.plus ∷ Kinds.minus ∷ Kinds.left_parenthesis ∷ Kinds.right_parenthesis ∷ Kinds.left_bracket ∷ Kinds.right_bracket ∷ Kinds.quote ∷ Kinds.at ∷ Kinds.hash ∷ [])
-    ++ (map (λ row. row.1) keywords ++ (Kinds.star ∷ Kinds.slash ∷ []))
+    ++ (map (λ row. kind_number row.1) keywords ++ (Kinds.star ∷ Kinds.slash ∷ []))
     ≡ from 0 76 ++ (100 ∷ 101 ∷ [])
 kinds_differ = refl
 
@@ -26,13 +27,13 @@ unfolding span same_bytes starts_with find keyword_length keyword_kind number co
 tokens_by zero source at = []
 tokens_by (suc k) source at =
     let t = token_at source at in
-    whether (eqb t.kind Kinds.end_of_source) (λ _. []) (λ _. (t.kind, t.value, t.at) ∷ tokens_by k source t.next)
+    whether (eqb (kind_number t.kind) Kinds.end_of_source) (λ _. []) (λ _. (kind_number t.kind, t.value, t.at) ∷ tokens_by k source t.next)
 
 -- those of some bytes that alone are no unknown token
 known_of : List ℕ → List ℕ
 unfolding span same_bytes starts_with find keyword_length keyword_kind number constant_token decimal_token negative_token octal_token keyword_token sign_token token_of after_blanks token_at
 known_of [] = []
-known_of (b ∷ bs) = whether (eqb (token_at (b ∷ []) 0).kind Kinds.unknown) (λ _. known_of bs) (λ _. b ∷ known_of bs)
+known_of (b ∷ bs) = whether (eqb (kind_number (token_at (b ∷ []) 0).kind) Kinds.unknown) (λ _. known_of bs) (λ _. b ∷ known_of bs)
 
 taken_longest :
     tokens_by 99 (bytes "5A<>=<=>'18.LGL3-5- 5 -32768 40000\n!.FOO.SENSE12X'9 ") 0
@@ -95,7 +96,7 @@ long_constants = refl
 
 -- the end of the source is a token of no bytes, at the source's length, blanks before it or not: kind, offset, and the offset after it (T13)
 end_of_source_lem :
-    map {B = ℕ × ℕ × ℕ} (λ at. let t = token_at (bytes "A \n") at in (t.kind, t.at, t.next)) (1 ∷ 3 ∷ []) ≡ (Kinds.end_of_source, 3, 3) ∷ (Kinds.end_of_source, 3, 3) ∷ []
+    map {B = ℕ × ℕ × ℕ} (λ at. let t = token_at (bytes "A \n") at in (kind_number t.kind, t.at, t.next)) (1 ∷ 3 ∷ []) ≡ (Kinds.end_of_source, 3, 3) ∷ (Kinds.end_of_source, 3, 3) ∷ []
 unfolding tokens_by
 end_of_source_lem = refl
 
@@ -112,3 +113,8 @@ whole_name = refl
 fewer_count : name_of (bytes " ABC12 X ") (token_at (bytes " ABC12 X ") 0) ≡ bytes "ABC12"
 unfolding tokens_by name_of
 fewer_count = refl
+
+-- each kind is that of its number
+numbered : map (λ kind. kind_of (kind_number kind)) kinds ≡ kinds
+unfolding kind_of
+numbered = refl

@@ -1,6 +1,9 @@
--- The kinds of token. They are numbers, and not constructors, because antt has no catch-all clause: each test would have to list them all.
--- The kind of a keyword is named by its letters.
-use Rattle.std.specs.Prelude.{ℕ}
+-- The kinds of token by number, so that one test of two numbers tells any two apart. The kind of a keyword is named by its letters.
+use Rattle.std.specs.Prelude.{ℕ, ◌==◌, List, [], ◌∷◌}
+use Rattle.std.specs.List.{find}
+use Rattle.std.specs.Option.{unwrap_or}
+use Rattle.source.specs.declared.kind.Kind.{Kind}
+use Rattle.source.specs.declared.kind.Kind.TheVariants.{EndOfSource, Unknown, OutOfRange, Name, Numeral, Semicolon, Comma, Equal, NotEqual, Less, Greater, AtMost, AtLeast, PlusSign, MinusSign, LeftParenthesis, RightParenthesis, LeftBracket, RightBracket, Quote, At, Hash, Begin, End, Integer, Constant, Compconstant, Array, Nextsector, Procedure, Accumulator, If, Then, Else, When, While, Do, For, Zero, And, Nev, Addc, Inc, Neg, Ssp, Ssm, Chs, Csa, Not, Icleft, Cleft, Swop, Icright, Cright, Abs, Lgr, Ars, Arr, Lgl, Als, Alr, Nonzero, Plus, Minus, Odd, Even, Cset, Notc, Sense1, Sense2, Sense3, Sense4, Anykey, Nokey, Mod, Checked, Star, Slash, Other}
 
 -- the end of the source; unknown bytes, which carry failure 4; a numeral out of range, which carries failure 5; a name; a numeral
 abbrev pub end_of_source : ℕ
@@ -247,3 +250,97 @@ star = 100
 
 abbrev pub slash : ℕ
 slash = 101
+
+-- the number of each kind of the code; no token is of the last
+abbrev pub kind_number : Kind → ℕ
+kind_number EndOfSource = end_of_source
+kind_number Unknown = unknown
+kind_number OutOfRange = out_of_range
+kind_number Name = name
+kind_number Numeral = numeral
+kind_number Semicolon = semicolon
+kind_number Comma = comma
+kind_number Equal = equal
+kind_number NotEqual = not_equal
+kind_number Less = less
+kind_number Greater = greater
+kind_number AtMost = at_most
+kind_number AtLeast = at_least
+kind_number PlusSign = plus
+kind_number MinusSign = minus
+kind_number LeftParenthesis = left_parenthesis
+kind_number RightParenthesis = right_parenthesis
+kind_number LeftBracket = left_bracket
+kind_number RightBracket = right_bracket
+kind_number Quote = quote
+kind_number At = at
+kind_number Hash = hash
+kind_number Begin = BEGIN
+kind_number End = END
+kind_number Integer = INTEGER
+kind_number Constant = CONSTANT
+kind_number Compconstant = COMPCONSTANT
+kind_number Array = ARRAY
+kind_number Nextsector = NEXTSECTOR
+kind_number Procedure = PROCEDURE
+kind_number Accumulator = ACCUMULATOR
+kind_number If = IF
+kind_number Then = THEN
+kind_number Else = ELSE
+kind_number When = WHEN
+kind_number While = WHILE
+kind_number Do = DO
+kind_number For = FOR
+kind_number Zero = ZERO
+kind_number And = AND
+kind_number Nev = NEV
+kind_number Addc = ADDC
+kind_number Inc = INC
+kind_number Neg = NEG
+kind_number Ssp = SSP
+kind_number Ssm = SSM
+kind_number Chs = CHS
+kind_number Csa = CSA
+kind_number Not = NOT
+kind_number Icleft = ICLEFT
+kind_number Cleft = CLEFT
+kind_number Swop = SWOP
+kind_number Icright = ICRIGHT
+kind_number Cright = CRIGHT
+kind_number Abs = ABS
+kind_number Lgr = LGR
+kind_number Ars = ARS
+kind_number Arr = ARR
+kind_number Lgl = LGL
+kind_number Als = ALS
+kind_number Alr = ALR
+kind_number Nonzero = NONZERO
+kind_number Plus = PLUS
+kind_number Minus = MINUS
+kind_number Odd = ODD
+kind_number Even = EVEN
+kind_number Cset = CSET
+kind_number Notc = NOTC
+kind_number Sense1 = SENSE1
+kind_number Sense2 = SENSE2
+kind_number Sense3 = SENSE3
+kind_number Sense4 = SENSE4
+kind_number Anykey = ANYKEY
+kind_number Nokey = NOKEY
+kind_number Mod = MOD
+kind_number Checked = CHECKED
+kind_number Star = star
+kind_number Slash = slash
+kind_number Other = 65535
+
+-- the kind of a number, or else the last
+abbrev pub kinds : List Kind
+kinds =
+    EndOfSource ∷ Unknown ∷ OutOfRange ∷ Name ∷ Numeral ∷ Semicolon ∷ Comma ∷ Equal ∷ NotEqual ∷ Less ∷ Greater ∷ AtMost ∷ AtLeast ∷ PlusSign ∷ MinusSign ∷
+    LeftParenthesis ∷ RightParenthesis ∷ LeftBracket ∷ RightBracket ∷ Quote ∷ At ∷ Hash ∷ Begin ∷ End ∷ Integer ∷ Constant ∷ Compconstant ∷ Array ∷ Nextsector ∷
+    Procedure ∷ Accumulator ∷ If ∷ Then ∷ Else ∷ When ∷ While ∷ Do ∷ For ∷ Zero ∷ And ∷ Nev ∷ Addc ∷ Inc ∷ Neg ∷ Ssp ∷ Ssm ∷ Chs ∷ Csa ∷ Not ∷ Icleft ∷ Cleft ∷
+    Swop ∷ Icright ∷ Cright ∷ Abs ∷ Lgr ∷ Ars ∷ Arr ∷ Lgl ∷ Als ∷ Alr ∷ Nonzero ∷ Plus ∷ Minus ∷ Odd ∷ Even ∷ Cset ∷ Notc ∷ Sense1 ∷ Sense2 ∷ Sense3 ∷ Sense4 ∷
+    Anykey ∷ Nokey ∷ Mod ∷ Checked ∷ Star ∷ Slash ∷ []
+
+unfoldable pub kind_of : ℕ → Kind
+kind_of number = unwrap_or (find (λ kind. kind_number kind == number) kinds) Other

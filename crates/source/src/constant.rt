@@ -3,13 +3,14 @@ ghost use Rattle.std.specs.Prelude.{◌≡◌, ◌+◌, ◌^◌, ◌≤◌, ◌<
 ghost use Rattle.source.specs.Signed.{bits_of, signed_token};
 ghost use Rattle.source.specs.Tokens.{constant_token, decimal_token};
 
+use crate::kind::Kind;
 use crate::span::{self, Class};
-use crate::{Token, kind, number};
+use crate::{Token, number};
 
 // A sign ahead of digits: its kind where it stands alone; the digits and their base; the largest number; whether the constant is that number below 0.
 #[derive(Clone, Copy, Debug, PartialEq, Eq)]
 pub struct Sign {
-    pub kind: u16,
+    pub kind: Kind,
     pub digits: Class,
     pub base: u32,
     pub limit: u32,
@@ -27,7 +28,7 @@ impl Sign {
 }
 
 pub const MINUS: Sign = Sign {
-    kind: kind::MINUS_SIGN,
+    kind: Kind::MinusSign,
     digits: Class::Digit,
     base: 10,
     limit: 32768,
@@ -35,7 +36,7 @@ pub const MINUS: Sign = Sign {
 };
 
 pub const QUOTE: Sign = Sign {
-    kind: kind::QUOTE,
+    kind: Kind::Quote,
     digits: Class::OctalDigit,
     base: 8,
     limit: 65535,
@@ -50,13 +51,13 @@ fn constant(n: u32, limit: u32, word: u32, at: usize, width: usize) -> Token
 {
     if n <= limit {
         Token {
-            kind: kind::NUMERAL,
+            kind: Kind::Numeral,
             value: word as u16,
             at,
             next: at + width,
         }
     } else {
-        Token::plain(kind::OUT_OF_RANGE, at, width)
+        Token::plain(Kind::OutOfRange, at, width)
     }
 }
 

@@ -4,77 +4,78 @@ ghost use Rattle.source.specs.Keywords.{keyword_length, keyword_kind};
 ghost use Rattle.source.specs.Tables.{kind_among};
 ghost use Rattle.source.specs.Tokens.{keyword_token};
 
+use crate::Token;
+use crate::kind::Kind;
 use crate::span::{self, Class};
-use crate::{Token, kind};
 
-static KEYWORDS: [(&[u8], u16); 54] = [
-    (b"BEGIN", kind::BEGIN),
-    (b"END", kind::END),
-    (b"INTEGER", kind::INTEGER),
-    (b"CONSTANT", kind::CONSTANT),
-    (b"COMPCONSTANT", kind::COMPCONSTANT),
-    (b"ARRAY", kind::ARRAY),
-    (b"NEXTSECTOR", kind::NEXTSECTOR),
-    (b"PROCEDURE", kind::PROCEDURE),
-    (b"ACCUMULATOR", kind::ACCUMULATOR),
-    (b"IF", kind::IF),
-    (b"THEN", kind::THEN),
-    (b"ELSE", kind::ELSE),
-    (b"WHEN", kind::WHEN),
-    (b"WHILE", kind::WHILE),
-    (b"DO", kind::DO),
-    (b"FOR", kind::FOR),
-    (b"ZERO", kind::ZERO),
-    (b"AND", kind::AND),
-    (b"NEV", kind::NEV),
-    (b"ADDC", kind::ADDC),
-    (b"INC", kind::INC),
-    (b"NEG", kind::NEG),
-    (b"SSP", kind::SSP),
-    (b"SSM", kind::SSM),
-    (b"CHS", kind::CHS),
-    (b"CSA", kind::CSA),
-    (b"NOT", kind::NOT),
-    (b"ICLEFT", kind::ICLEFT),
-    (b"CLEFT", kind::CLEFT),
-    (b"SWOP", kind::SWOP),
-    (b"ICRIGHT", kind::ICRIGHT),
-    (b"CRIGHT", kind::CRIGHT),
-    (b"ABS", kind::ABS),
-    (b"LGR", kind::LGR),
-    (b"ARS", kind::ARS),
-    (b"ARR", kind::ARR),
-    (b"LGL", kind::LGL),
-    (b"ALS", kind::ALS),
-    (b"ALR", kind::ALR),
-    (b"NONZERO", kind::NONZERO),
-    (b"PLUS", kind::PLUS),
-    (b"MINUS", kind::MINUS),
-    (b"ODD", kind::ODD),
-    (b"EVEN", kind::EVEN),
-    (b"CSET", kind::CSET),
-    (b"NOTC", kind::NOTC),
-    (b"SENSE1", kind::SENSE1),
-    (b"SENSE2", kind::SENSE2),
-    (b"SENSE3", kind::SENSE3),
-    (b"SENSE4", kind::SENSE4),
-    (b"ANYKEY", kind::ANYKEY),
-    (b"NOKEY", kind::NOKEY),
-    (b"MOD", kind::MOD),
-    (b"CHECKED", kind::CHECKED),
+static KEYWORDS: [(&[u8], Kind); 54] = [
+    (b"BEGIN", Kind::Begin),
+    (b"END", Kind::End),
+    (b"INTEGER", Kind::Integer),
+    (b"CONSTANT", Kind::Constant),
+    (b"COMPCONSTANT", Kind::Compconstant),
+    (b"ARRAY", Kind::Array),
+    (b"NEXTSECTOR", Kind::Nextsector),
+    (b"PROCEDURE", Kind::Procedure),
+    (b"ACCUMULATOR", Kind::Accumulator),
+    (b"IF", Kind::If),
+    (b"THEN", Kind::Then),
+    (b"ELSE", Kind::Else),
+    (b"WHEN", Kind::When),
+    (b"WHILE", Kind::While),
+    (b"DO", Kind::Do),
+    (b"FOR", Kind::For),
+    (b"ZERO", Kind::Zero),
+    (b"AND", Kind::And),
+    (b"NEV", Kind::Nev),
+    (b"ADDC", Kind::Addc),
+    (b"INC", Kind::Inc),
+    (b"NEG", Kind::Neg),
+    (b"SSP", Kind::Ssp),
+    (b"SSM", Kind::Ssm),
+    (b"CHS", Kind::Chs),
+    (b"CSA", Kind::Csa),
+    (b"NOT", Kind::Not),
+    (b"ICLEFT", Kind::Icleft),
+    (b"CLEFT", Kind::Cleft),
+    (b"SWOP", Kind::Swop),
+    (b"ICRIGHT", Kind::Icright),
+    (b"CRIGHT", Kind::Cright),
+    (b"ABS", Kind::Abs),
+    (b"LGR", Kind::Lgr),
+    (b"ARS", Kind::Ars),
+    (b"ARR", Kind::Arr),
+    (b"LGL", Kind::Lgl),
+    (b"ALS", Kind::Als),
+    (b"ALR", Kind::Alr),
+    (b"NONZERO", Kind::Nonzero),
+    (b"PLUS", Kind::Plus),
+    (b"MINUS", Kind::Minus),
+    (b"ODD", Kind::Odd),
+    (b"EVEN", Kind::Even),
+    (b"CSET", Kind::Cset),
+    (b"NOTC", Kind::Notc),
+    (b"SENSE1", Kind::Sense1),
+    (b"SENSE2", Kind::Sense2),
+    (b"SENSE3", Kind::Sense3),
+    (b"SENSE4", Kind::Sense4),
+    (b"ANYKEY", Kind::Anykey),
+    (b"NOKEY", Kind::Nokey),
+    (b"MOD", Kind::Mod),
+    (b"CHECKED", Kind::Checked),
 ];
 
 // What stands in no row carries a failure, as an unknown byte does. The rows are lent, since a proof does not look into a static.
 #[tactic(auto, unfolding(crate::specs::Tables::kind_among))]
-fn kind_in(rows: &[(&[u8], u16)], keyword: &[u8]) -> u16
+fn kind_in(rows: &[(&[u8], Kind)], keyword: &[u8]) -> Kind
     ensures { result ≡ kind_among rows.now keyword.now }
 {
     rows.iter()
         .find(|row| keyword == row.0)
-        .map_or(kind::UNKNOWN, |row| row.1)
+        .map_or(Kind::Unknown, |row| row.1)
 }
 
-fn keyword_kind(keyword: &[u8]) -> u16
+fn keyword_kind(keyword: &[u8]) -> Kind
     ensures { result ≡ keyword_kind keyword.now }
 {
     kind_in(&KEYWORDS, keyword)

@@ -5,6 +5,7 @@ ghost use Rattle.std.specs.Prelude.{◌≡◌, ◌+◌, ◌^◌, ◌<◌, length
 ghost use Rattle.source.specs.Tokens.{token, token_of, operator_of, token_at, operator_at};
 ghost use Rattle.source.specs.Bytes.{span, is_blank};
 
+use kind::Kind;
 use span::Class;
 
 pub mod byte;
@@ -18,7 +19,7 @@ mod span;
 // Its kind; the 16 bits of a constant in figures; the offsets of its first byte and after its last.
 #[derive(Clone, Copy, Debug, PartialEq, Eq)]
 pub struct Token {
-    pub kind: u16,
+    pub kind: Kind,
     pub value: u16,
     pub at: usize,
     pub next: usize,
@@ -26,7 +27,7 @@ pub struct Token {
 
 impl Token {
     // One that is no constant.
-    pub(crate) fn plain(kind: u16, at: usize, width: usize) -> Token
+    pub(crate) fn plain(kind: Kind, at: usize, width: usize) -> Token
         requires { at + width < 2 ^ 64 }
         ensures { result ≡ token kind 0 at width }
     {
@@ -46,9 +47,9 @@ fn token_of(bytes: &[u8], at: usize) -> Token
     ensures { result ≡ token_of bytes.now at }
 {
     match bytes {
-        [] => Token::plain(kind::END_OF_SOURCE, at, 0),
+        [] => Token::plain(Kind::EndOfSource, at, 0),
         [b'A'..=b'Z', rest @ ..] => Token::plain(
-            kind::NAME,
+            Kind::Name,
             at,
             1 + span::width(rest, Class::LetterOrDigit),
         ),
@@ -67,7 +68,7 @@ fn operator_of(bytes: &[u8], at: usize) -> Token
     ensures { result ≡ operator_of bytes.now at }
 {
     match bytes {
-        [b'-', ..] => Token::plain(kind::MINUS_SIGN, at, 1),
+        [b'-', ..] => Token::plain(Kind::MinusSign, at, 1),
         _ => token_of(bytes, at),
     }
 }

@@ -10,6 +10,7 @@ use borrow.Author.Tests.{ne_eqb}
 use denote.Enum.Declared.{tag_of}
 use lib.ListN.{length}
 use Rattle.prelude.specs.Choice.{whether, given}
+use Rattle.source.specs.Kinds.{kind_number}
 use Rattle.source.specs.Kinds
 use Rattle.source.specs.declared.Token.{Token}
 use Rattle.source.specs.Tokens.{token_at, failure_at}
@@ -55,12 +56,12 @@ no_integer Symbol.Unknown h = refl
 
 module _ (source : List ℕ) (names : Names) (expr : ℕ → Got Expr) (at : ℕ) (t : Token) (e : t ≡ token_at source at) where
   pub head_hash :
-      t.kind ≡ Kinds.hash
+      kind_number t.kind ≡ Kinds.hash
       → parse_head source names expr (token_at source at) ≡ and_then (after_equal source (parse_lone_cell source names) t.next) (λ c n. got (Head.hash c) n)
   unfolding parse_head
   head_hash q = rw (← e, q)
 
-  module _ (s : Symbol) (n : t.kind ≡ Kinds.hash → ⊥) (q : tree_symbol s ≡ symbol_at source names (token_at source at)) where
+  module _ (s : Symbol) (n : kind_number t.kind ≡ Kinds.hash → ⊥) (q : tree_symbol s ≡ symbol_at source names (token_at source at)) where
     named : name_as source names as_integer t ≡ as_integer (tree_symbol s)
     named = ap (name_as source names as_integer) e ∙ named_integer source names (token_at source at) ∙ ap as_integer (sym q)
 

@@ -9,7 +9,7 @@ use emitter::{Output, emit_cell};
 use expressions::Body;
 use instruction::opcode;
 use parser::{Part, Read, expect};
-use source::kind;
+use source::kind::Kind;
 use symbols::{Array, Cell, Id, Operand};
 
 // `=` expression.
@@ -22,7 +22,7 @@ pub fn assigned(
 ) -> Read<Output>
     ensures { Does expr_words body.now output image.old image.new result (value_at body.now left at) }
 {
-    let equal = expect(body.reader.source, kind::EQUAL, at);
+    let equal = expect(body.reader.source, Kind::Equal, at);
     let Ok(Part { value: _, next }) = equal else {
         return Err(equal.unwrap_err());
     };
@@ -94,7 +94,7 @@ pub fn element(
 pub fn set_x(body: &Body<'_>, image: &mut [u16], output: Output, at: usize) -> Read<Output>
     ensures { Does loaded_words body.now output image.old image.new result (load_at body.now at) }
 {
-    let equal = expect(body.reader.source, kind::EQUAL, at);
+    let equal = expect(body.reader.source, Kind::Equal, at);
     let Ok(Part { value: _, next }) = equal else {
         return Err(equal.unwrap_err());
     };

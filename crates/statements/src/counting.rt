@@ -5,7 +5,8 @@ use crate::assignment::{plain, set_x, store};
 use emitter::Output;
 use expressions::Body;
 use parser::{Part, Read, refuse_at};
-use source::{kind, token_at};
+use source::kind::Kind;
+use source::token_at;
 use symbols::{Id, Symbol};
 
 // What stands before a `.DO`: what it emits, and the integer that is counted.
@@ -26,7 +27,7 @@ pub fn for_head(
     ensures { DoesHead body.now output image.old image.new result (head_at body.now left at) }
 {
     let t = token_at(body.reader.source, at);
-    if t.kind == kind::HASH {
+    if t.kind == Kind::Hash {
         let read = set_x(body, image, output, t.next);
         let Ok(
             Part {

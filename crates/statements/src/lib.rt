@@ -1,6 +1,7 @@
 // Statements: parsed and emitted in one go. Where a part fails, its failure is answered at once; of what is emitted then, `KeptImage` holds.
 #![tactic(auto)]
 
+ghost use Rattle.source.specs.Kinds.{kind_number};
 ghost use Rattle.std.specs.Prelude.{◌≡◌};
 ghost use Rattle.layout.specs.Words.{stmts_words};
 ghost use Rattle.grammar.specs.Statements.{ends_statement};
@@ -17,7 +18,8 @@ use expressions::relation::emit_hole;
 use expressions::{Body, Guarded};
 use instruction::opcode;
 use parser::{Cause, Part, Read, expect, fail_at};
-use source::{Token, kind, token_at};
+use source::kind::Kind;
+use source::{Token, token_at};
 use symbols::Operand;
 
 mod assignment;
@@ -27,8 +29,8 @@ mod counting;
 const LEVELS: usize = 33;
 
 // A part with the token of a kind after it.
-fn followed_by<T: Copy>(source: &[u8], read: Read<T>, kind: u16) -> Read<T>
-    ensures { Follows source.now kind read result }
+fn followed_by<T: Copy>(source: &[u8], read: Read<T>, kind: Kind) -> Read<T>
+    ensures { Follows source.now (kind_number kind) read result }
 {
     let Part { value, next } = read?;
     let Part { value: _, next } = expect(source, kind, next)?;
@@ -39,7 +41,7 @@ fn followed_by<T: Copy>(source: &[u8], read: Read<T>, kind: u16) -> Read<T>
 fn ends_statement(t: Token) -> bool
     ensures { result ≡ ends_statement t }
 {
-    matches!(t.kind, kind::SEMICOLON | kind::END | kind::ELSE)
+    matches!(t.kind, Kind::Semicolon | Kind::End | Kind::Else)
 }
 
 // A condition, the word after it, and the statement that it guards; the jump where it fails is not filled in yet.
@@ -49,12 +51,12 @@ fn guarded(
     body: &Body<'_>,
     image: &mut [u16],
     output: Output,
-    word: u16,
+    word: Kind,
     at: usize,
     left: usize,
     inner: usize,
 ) -> Read<Guarded>
-    ensures { Guards body.now output image.old image.new result (guarded_at body.now word left inner at) }
+    ensures { Guards body.now output image.old image.new result (guarded_at body.now (kind_number word) left inner at) }
 {
     let condition = body.condition(image, output, at, left);
     let test = followed_by(body.reader.source, condition, word);
@@ -92,8 +94,8 @@ fn if_statement(
 ) -> Read<Output>
     ensures { Stated body.now output image.old image.new result (if_at body.now left inner at) }
 {
-    let guarded = guarded(body, image, output, kind::THEN, at, left, inner);
-    let first = followed_by(body.reader.source, guarded, kind::ELSE);
+    let guarded = guarded(body, image, output, Kind::Then, at, left, inner);
+    let first = followed_by(body.reader.source, guarded, Kind::Else);
     let Ok(Part { value: one, next }) = first else {
         return Err(first.unwrap_err());
     };
@@ -119,7 +121,7 @@ fn when_statement(
 ) -> Read<Output>
     ensures { Stated body.now output image.old image.new result (when_at body.now left inner at) }
 {
-    let all = guarded(body, image, output, kind::THEN, at, left, inner);
+    let all = guarded(body, image, output, Kind::Then, at, left, inner);
     let Ok(Part { value, next }) = all else {
         return Err(all.unwrap_err());
     };
@@ -142,7 +144,7 @@ fn while_statement(
 ) -> Read<Output>
     ensures { Stated body.now output image.old image.new result (while_at body.now left inner at) }
 {
-    let all = guarded(body, image, output, kind::DO, at, left, inner);
+    let all = guarded(body, image, output, Kind::Do, at, left, inner);
     let Ok(Part { value, next }) = all else {
         return Err(all.unwrap_err());
     };
@@ -167,7 +169,7 @@ fn for_statement(
     ensures { Stated body.now output image.old image.new result (for_at body.now left inner at) }
 {
     let counted = for_head(body, image, output, at, left);
-    let head = followed_by(body.reader.source, counted, kind::DO);
+    let head = followed_by(body.reader.source, counted, Kind::Do);
     let Ok(Part { value: start, next }) = head else {
         return Err(head.unwrap_err());
     };
@@ -208,7 +210,7 @@ fn listed(
             return one;
         };
         let t = token_at(body.reader.source, next);
-        if t.kind != kind::SEMICOLON {
+        if t.kind != Kind::Semicolon {
             return one;
         }
         so_far = value;
@@ -229,7 +231,7 @@ fn compound(
     ensures { Stated body.now output image.old image.new result (compound_at body.now inner at) }
 {
     let all = listed(body, image, output, at, inner);
-    followed_by(body.reader.source, all, kind::END)
+    followed_by(body.reader.source, all, Kind::End)
 }
 
 // A statement from after its first token.

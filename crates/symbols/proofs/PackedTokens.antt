@@ -10,10 +10,13 @@ use lib.Seq.{drop-drop}
 use lib.Dec.{eqb, leb}
 use borrow.Author.Tests.{eq-eqb}
 use Rattle.prelude.specs.Choice.{whether, given, find}
+use Rattle.source.specs.Kinds.{kind_number}
 use Rattle.source.specs.Bytes.{is_letter, is_digit, is_octal_digit, is_letter_or_digit, is_blank, span, starts_with, same_bytes}
 use Rattle.source.specs.Kinds
 use Rattle.source.specs.Keywords.{keywords, keyword_length, keyword_kind}
 use Rattle.source.specs.declared.Token.{Token}
+use Rattle.source.specs.declared.kind.Kind.{Kind}
+use Rattle.source.specs.declared.kind.Kind.TheVariants.{Unknown, Name}
 use Rattle.source.specs.Tokens.{token, constant_token, decimal_token, negative_token, octal_token, keyword_token, signs, sign_token, token_of, after_blanks, token_at, spelling, name_of}
 use Rattle.symbols.specs.Packing.{all_name_bytes, pack_of, unpack, PackingLaws}
 use Rattle.symbols.proofs.Packing.{six_cut, six_unpacked, six_decide}
@@ -25,63 +28,63 @@ abbrev Other : ℕ → Type 0
 Other kind = eqb kind Kinds.name ≡ false
 
 abbrev OtherToken : Token → Type 0
-OtherToken t = Other t.kind
+OtherToken t = Other (kind_number t.kind)
 
-abbrev OtherRow : Option (List ℕ × ℕ) → Type 0
-OtherRow o = given o (λ r. eqb r.1 Kinds.name) (λ _. false) ≡ false
+abbrev OtherRow : Option (List ℕ × Kind) → Type 0
+OtherRow o = given o (λ r. eqb (kind_number r.1) Kinds.name) (λ _. false) ≡ false
 
-abbrev other_rows : List (List ℕ × ℕ) → Bool
+abbrev other_rows : List (List ℕ × Kind) → Bool
 other_rows [] = true
-other_rows (r ∷ rs) = whether (eqb r.1 Kinds.name) (λ _. false) (λ _. other_rows rs)
+other_rows (r ∷ rs) = whether (eqb (kind_number r.1) Kinds.name) (λ _. false) (λ _. other_rows rs)
 
 either : {A : Type 0} (P : A → Type 0) (b : Bool) (x y : Unit {0} → A) → P (x tt) → P (y tt) → P (whether b x y)
 either P true x y h k = h
 either P false x y h k = k
 
-found_other : (p : List ℕ → Bool) (rows : List (List ℕ × ℕ)) → other_rows rows ≡ true → OtherRow (find p rows)
+found_other : (p : List ℕ → Bool) (rows : List (List ℕ × Kind)) → other_rows rows ≡ true → OtherRow (find p rows)
 unfolding find
 found_other p [] h = refl
-found_other p (r ∷ rs) h = go (eqb r.1 Kinds.name) refl h (found_other p rs)
+found_other p (r ∷ rs) h = go (eqb (kind_number r.1) Kinds.name) refl h (found_other p rs)
   where
-    go : (b : Bool) → eqb r.1 Kinds.name ≡ b → whether b (λ _. false) (λ _. other_rows rs) ≡ true → (other_rows rs ≡ true → OtherRow (find p rs))
+    go : (b : Bool) → eqb (kind_number r.1) Kinds.name ≡ b → whether b (λ _. false) (λ _. other_rows rs) ≡ true → (other_rows rs ≡ true → OtherRow (find p rs))
         → OtherRow (whether (p r.0) (λ _. some r) (λ _. find p rs))
     go true e k ih = let z : ◌≡◌ {A = ℕ} 0 1 = cc in absurd (omega arith)
     go false e k ih = either OtherRow (p r.0) _ _ e (ih k)
 
-given_other : (o : Option (List ℕ × ℕ)) → OtherRow o → Other (given o (λ r. r.1) (λ _. Kinds.unknown))
+given_other : (o : Option (List ℕ × Kind)) → OtherRow o → Other (kind_number (given o (λ r. r.1) (λ _. Unknown)))
 given_other none h = refl
 given_other (some r) h = h
 
-constant_other : (n limit word at width : ℕ) → Other (constant_token n limit word at width).kind
+constant_other : (n limit word at width : ℕ) → Other (kind_number (constant_token n limit word at width).kind)
 unfolding constant_token
 constant_other n limit word at width = either OtherToken (leb n limit) _ _ refl refl
 
-word_other : (bs : List ℕ) (at : ℕ) → Other (keyword_token bs at).kind
+word_other : (bs : List ℕ) (at : ℕ) → Other (kind_number (keyword_token bs at).kind)
 unfolding keyword_token keyword_kind
 word_other bs at = given_other (find (same_bytes (take (keyword_length bs) bs)) keywords) (found_other (same_bytes (take (keyword_length bs) bs)) keywords refl)
 
-sign_other : (bs : List ℕ) (at : ℕ) → Other (sign_token bs at).kind
+sign_other : (bs : List ℕ) (at : ℕ) → Other (kind_number (sign_token bs at).kind)
 unfolding sign_token
 sign_other bs at = go (find (λ sign. starts_with sign bs) signs) (found_other (λ sign. starts_with sign bs) signs refl)
   where
-    go : (o : Option (List ℕ × ℕ)) → OtherRow o → Other (given o (λ row. token row.1 0 at (length row.0)) (λ _. token Kinds.unknown 0 at 1)).kind
+    go : (o : Option (List ℕ × Kind)) → OtherRow o → Other (kind_number (given o (λ row. token row.1 0 at (length row.0)) (λ _. token Unknown 0 at 1)).kind)
     go none h = refl
     go (some r) h = h
 
-negative_other : (bs : List ℕ) (at : ℕ) → Other (negative_token bs at).kind
+negative_other : (bs : List ℕ) (at : ℕ) → Other (kind_number (negative_token bs at).kind)
 unfolding negative_token
 negative_other bs at = either OtherToken (eqb (span is_digit bs) 0) _ _ refl (constant_other _ _ _ _ _)
 
-octal_other : (bs : List ℕ) (at : ℕ) → Other (octal_token bs at).kind
+octal_other : (bs : List ℕ) (at : ℕ) → Other (kind_number (octal_token bs at).kind)
 unfolding octal_token
 octal_other bs at = either OtherToken (eqb (span is_octal_digit bs) 0) _ _ refl (constant_other _ _ _ _ _)
 
 rest_other : (b : ℕ) (bs : List ℕ) (at : ℕ)
-    → Other (whether (is_digit b) (λ _. decimal_token (b ∷ bs) at) (λ _.
+    → Other (kind_number (whether (is_digit b) (λ _. decimal_token (b ∷ bs) at) (λ _.
     whether (eqb b 45) (λ _. negative_token bs at) λ _.
     whether (eqb b 39) (λ _. octal_token bs at) λ _.
     whether (eqb b 46) (λ _. keyword_token bs at) λ _.
-    sign_token (b ∷ bs) at)).kind
+    sign_token (b ∷ bs) at)).kind)
 unfolding decimal_token
 rest_other b bs at =
     either OtherToken (is_digit b) _ _ (constant_other _ _ _ _ _)
@@ -107,10 +110,10 @@ letter_first b bs h = let e : is_letter_or_digit b ≡ true = ap (λ t. t || is_
 -- a name's token, and the characters that it takes
 record Named (bs : List ℕ) (at : ℕ) (t : Token) : Type 0 where
   width : ℕ
-  is : t ≡ token Kinds.name 0 at width
+  is : t ≡ token Name 0 at width
   all : all_name_bytes (take width bs) ≡ true
 
-named : (bs : List ℕ) (at : ℕ) → eqb (token_of bs at).kind Kinds.name ≡ true → Named bs at (token_of bs at)
+named : (bs : List ℕ) (at : ℕ) → eqb (kind_number (token_of bs at).kind) Kinds.name ≡ true → Named bs at (token_of bs at)
 unfolding token_of
 named [] at h = let z : ◌≡◌ {A = ℕ} 0 1 = cc in absurd (omega arith)
 named (b ∷ bs) at h = go (is_letter b) refl h
@@ -123,15 +126,15 @@ named (b ∷ bs) at h = go (is_letter b) refl h
         whether (eqb b 46) (λ _. keyword_token bs at) λ _.
         sign_token (b ∷ bs) at
 
-    go : (t : Bool) → is_letter b ≡ t → eqb (whether t (λ _. token Kinds.name 0 at (suc (span is_letter_or_digit bs))) (λ _. others)).kind Kinds.name ≡ true
-        → Named (b ∷ bs) at (whether t (λ _. token Kinds.name 0 at (suc (span is_letter_or_digit bs))) (λ _. others))
+    go : (t : Bool) → is_letter b ≡ t → eqb (kind_number (whether t (λ _. token Name 0 at (suc (span is_letter_or_digit bs))) (λ _. others)).kind) Kinds.name ≡ true
+        → Named (b ∷ bs) at (whether t (λ _. token Name 0 at (suc (span is_letter_or_digit bs))) (λ _. others))
     go true e k = record { width = suc (span is_letter_or_digit bs); is = refl; all = letter_first b bs e }
     go false e k = let z : ◌≡◌ {A = ℕ} 0 1 = cc (rest_other b bs at) in absurd (omega arith)
 
 width_is : (at n : ℕ) → (at + n) - at ≡ n
 width_is at n = omega arith
 
-module _ (source : List ℕ) (at : ℕ) (h : eqb (token_at source at).kind Kinds.name ≡ true) where
+module _ (source : List ℕ) (at : ℕ) (h : eqb (kind_number (token_at source at).kind) Kinds.name ≡ true) where
   -- a name has letters and digits alone (T7)
   name_all : all_name_bytes (spelling source (token_at source at)) ≡ true
   unfolding token_at after_blanks

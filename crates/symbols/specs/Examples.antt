@@ -2,9 +2,11 @@
 use Rattle.std.specs.Prelude.{◌≡◌, refl, true, false, List, [], ◌∷◌, map, ℕ}
 use Rattle.std.proofs.Math.Option.{none, some}
 use Rattle.prelude.specs.Text.{bytes}
+use Rattle.source.specs.Kinds.{kind_number}
 use Rattle.source.specs.Bytes.{span, same_bytes}
 use Rattle.prelude.specs.Choice.{find}
 use Rattle.source.specs.Kinds
+use Rattle.source.specs.declared.kind.Kind.TheVariants as Kind
 use Rattle.source.specs.Tokens.{token, token_of, after_blanks, token_at, name_of}
 use Rattle.tree.specs.Tree.{Id, Name}
 use Rattle.tree.specs.Symbols.{Symbol, Level, next_id}
@@ -17,7 +19,7 @@ unfolding pack_of
 packed = refl
 
 -- no more than six characters count (T7)
-six : pack_of (name_of (bytes ".INTEGER LENGTH1;") (token Kinds.name 0 9 7)) ≡ pack_of (bytes "LENGTH")
+six : pack_of (name_of (bytes ".INTEGER LENGTH1;") (token Kind.Name 0 9 7)) ≡ pack_of (bytes "LENGTH")
 unfolding pack_of name_of
 six = refl
 
@@ -35,7 +37,7 @@ text : List ℕ
 text = bytes "ABCDEF ABCDEFG ABCDE A A0"
 
 packed_from : ℕ → ℕ × Packed
-packed_from at = let t = token_at text at in (t.kind, pack_of (name_of text t))
+packed_from at = let t = token_at text at in (kind_number t.kind, pack_of (name_of text t))
 
 of_tokens :
     map packed_from (0 ∷ 6 ∷ 14 ∷ 20 ∷ 22 ∷ [])

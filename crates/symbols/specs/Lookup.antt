@@ -1,6 +1,7 @@
 -- What a token stands for, and what is promised of looking it up.
 use Rattle.std.specs.Prelude.{ℕ, ◌≡◌, List, eqb}
 use Rattle.prelude.specs.Choice.{whether}
+use Rattle.source.specs.Kinds.{kind_number}
 use Rattle.source.specs.Kinds
 use Rattle.source.specs.declared.Token.{Token}
 use Rattle.source.specs.Tokens.{token_at, name_of}
@@ -11,8 +12,8 @@ use Rattle.symbols.specs.Packing.{pack_of, unpack}
 -- a token with the name that it is looked up by: a numeral stands for its value, as a compconstant's name does (D12, E1)
 unfoldable pub symbol_by : Names → Token → Name → Symbol
 symbol_by names t name =
-    whether (eqb t.kind Kinds.numeral) (λ _. Symbol.compconstant t.value) λ _.
-    whether (eqb t.kind Kinds.name) (λ _. symbol_of names name) λ _.
+    whether (eqb (kind_number t.kind) Kinds.numeral) (λ _. Symbol.compconstant t.value) λ _.
+    whether (eqb (kind_number t.kind) Kinds.name) (λ _. symbol_of names name) λ _.
     Symbol.unknown
 
 -- by its name in the source

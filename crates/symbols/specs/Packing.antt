@@ -1,6 +1,7 @@
 -- Names packed: two characters a word, 0 where there is none; which names pack alike.
 use Rattle.std.specs.Prelude.{ℕ, ◌+◌, ◌*◌, ◌/◌, ◌%◌, ◌<◌, ◌≡◌, Bool, true, false, List, [], ◌∷◌, length, get_or, take, eqb}
 use Rattle.prelude.specs.Choice.{whether}
+use Rattle.source.specs.Kinds.{kind_number}
 use Rattle.source.specs.Bytes.{is_letter_or_digit, same_bytes}
 use Rattle.source.specs.Kinds
 use Rattle.source.specs.Tokens.{token_at, spelling}
@@ -41,7 +42,7 @@ pub record PackingLaws : Type 0 where
   -- of letters and digits alone: a byte 0 packs as if no character were there
   pub names : (n m : Name) → all_name_bytes n ≡ true → all_name_bytes m ≡ true → SixDecide n m
   -- the names that are read from any two offsets of a source, in full
-  pub tokens : (source : List ℕ) (i j : ℕ) → (token_at source i).kind ≡ Kinds.name → (token_at source j).kind ≡ Kinds.name
+  pub tokens : (source : List ℕ) (i j : ℕ) → kind_number (token_at source i).kind ≡ Kinds.name → kind_number (token_at source j).kind ≡ Kinds.name
       → SixDecide (spelling source (token_at source i)) (spelling source (token_at source j))
   -- of any bytes: to pack the characters that count (`name_of`) is to pack the whole name
   pub cut : (name : Name) → pack_of (take 6 name) ≡ pack_of name

@@ -6,7 +6,8 @@ ghost use Rattle.symbols.specs.Table.{live_names};
 ghost use Rattle.symbols.specs.Lookup.{symbol_at, LooksUp};
 
 use crate::{Names, Symbol, pack};
-use source::{Token, kind, token_at};
+use source::kind::Kind;
+use source::{Token, token_at};
 
 impl Names<'_> {
     /// What a token stands for: a name by the live names, a numeral for its value, as a compconstant's name does (D12, E1).
@@ -15,8 +16,8 @@ impl Names<'_> {
         ensures { LooksUp source.now (live_names self.now.count self.now.words.now) t (tree_symbol result) }
     {
         match t.kind {
-            kind::NUMERAL => Symbol::Compconstant { value: t.value },
-            kind::NAME => self.find(pack(source, t)),
+            Kind::Numeral => Symbol::Compconstant { value: t.value },
+            Kind::Name => self.find(pack(source, t)),
             _ => Symbol::Unknown,
         }
     }

@@ -7,6 +7,7 @@ use mathlib.Core.Option.{Option, none, some}
 use lib.Dec.{eqb}
 use borrow.Author.Tests.{eqb-true}
 use Rattle.prelude.specs.Choice.{whether, find, given}
+use Rattle.source.specs.Kinds.{kind_number}
 use Rattle.source.specs.declared.Token.{Token}
 use Rattle.grammar.specs.Vocabulary.{as_one_of}
 
@@ -42,8 +43,8 @@ if_found Q test f y (row {k = k} {a = a} {rs = rs} p rest) h z =
 
 -- what a token stands for in a table: in any, and in one of which P holds
 pub one_of : {A B : Type 0} (Q : B → Type 0) (table : List (ℕ × A)) (t : Token) (f : A → B) (y : B) → ((a : A) → Q (f a)) → Q y → Q (as_one_of table t f (λ _. y))
-one_of Q table t f y h k = if_given Q (find (eqb t.kind) table) (λ r. f r.1) y (λ r. h r.1) k
+one_of Q table t f y h k = if_given Q (find (eqb (kind_number t.kind)) table) (λ r. f r.1) y (λ r. h r.1) k
 
 pub row_of : {A B : Type 0} (Q : B → Type 0) {P : ℕ → A → Type 0} {table : List (ℕ × A)} (t : Token) (f : A → B) (y : B)
-    → Rows P table → ((a : A) → P t.kind a → Q (f a)) → Q y → Q (as_one_of table t f (λ _. y))
-row_of Q {P = P} t f y rows h k = if_found Q (eqb t.kind) (λ r. f r.1) y rows (λ n a e p. let z = eqb-true t.kind n e in h a (rw z p)) k
+    → Rows P table → ((a : A) → P (kind_number t.kind) a → Q (f a)) → Q y → Q (as_one_of table t f (λ _. y))
+row_of Q {P = P} t f y rows h k = if_found Q (eqb (kind_number t.kind)) (λ r. f r.1) y rows (λ n a e p. let z = eqb-true (kind_number t.kind) n e in h a (rw z p)) k

@@ -7,6 +7,7 @@ use native.Mathlib.Omega.{arith}
 use lib.Dec.{leb, ltb}
 use lib.ListN.{length, length-append}
 use borrow.Author.Tests.{eqb-true, leb-true, ltb-true}
+use Rattle.source.specs.Kinds.{kind_number}
 use Rattle.source.specs.Kinds
 use Rattle.source.specs.declared.Token.{Token}
 use Rattle.source.specs.Tokens.{token_at, name_of}
@@ -58,7 +59,7 @@ module _ (source : List ℕ) where
   unfolding new_name
   new_name_lem sc limit l {t = t} i =
       either (is Kinds.name t)
-      (λ e. let b = begun (eqb-true t.kind Kinds.name e) in
+      (λ e. let b = begun (eqb-true (kind_number t.kind) Kinds.name e) in
       either (is_taken sc (name_of source t)) (λ e. fails i 8 b (omega arith) (omega arith))
       (λ e. either (leb 512 (length sc.names)) (λ e. fails i 10 b (omega arith) (omega arith))
       (λ e. limited l i b (λ z. fine z i.after))))
@@ -173,7 +174,7 @@ module _ (source : List ℕ) where
 
     -- what each declaration word begins, at a token of its kind
     abbrev ParserOk : ℕ → (List Declaration → Token → Got (List Declaration)) → Type 0
-    ParserOk kind parse = (ds : List Declaration) → Read checked ds → (t : Token) → Held source t → t.kind ≡ kind → Parsed source (Read checked) (parse ds t)
+    ParserOk kind parse = (ds : List Declaration) → Read checked ds → (t : Token) → Held source t → kind_number t.kind ≡ kind → Parsed source (Read checked) (parse ds t)
 
     word_rows : Rows ParserOk (declaration_keywords source checked)
     word_rows =

@@ -8,6 +8,7 @@ use lib.Dec.{leb}
 use lib.ListN.{length}
 use borrow.Author.Tests.{eqb-true, leb-true}
 use Rattle.prelude.specs.Choice.{find, between}
+use Rattle.source.specs.Kinds.{kind_number}
 use Rattle.source.specs.Kinds
 use Rattle.source.specs.declared.Token.{Token}
 use Rattle.source.specs.Tokens.{token_at, operator_at}
@@ -38,7 +39,7 @@ amount v e = let b = both (leb 1 v) (leb v 15) e in (leb-true 1 v b.0, leb-true 
 pub refused : {A : Type 0} {P : A → Type 0} {source : List ℕ} {t : Token} → Held source t → Parsed source P (refuse t)
 unfolding refuse
 refused {t = t} i =
-    either (is Kinds.name t) (λ e. fails i 7 (begun (eqb-true t.kind Kinds.name e)) (omega arith) (omega arith)) (λ e. not_allowed i)
+    either (is Kinds.name t) (λ e. fails i 7 (begun (eqb-true (kind_number t.kind) Kinds.name e)) (omega arith) (omega arith)) (λ e. not_allowed i)
 
 module _ (source : List ℕ) (x : Context) {names : Names} (known : NamesOk x names) where
   -- ---- Cells

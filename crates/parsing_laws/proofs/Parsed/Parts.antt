@@ -9,6 +9,7 @@ use lib.Dec.{eqb}
 use lib.ListN.{length}
 use borrow.Author.Tests.{eqb-true, eqb-false}
 use Rattle.prelude.specs.Choice.{whether}
+use Rattle.source.specs.Kinds.{kind_number}
 use Rattle.source.specs.Kinds
 use Rattle.source.specs.declared.Token.{Token}
 use Rattle.source.specs.Tokens.{token_at, operator_at, failure_at}
@@ -45,7 +46,7 @@ Limit n = (n ≡ 0 → ⊥) → (4 ≤ n) × (n ≤ 14)
 -- ---- Tokens
 
 abbrev pub Ended : Token → Type 0
-Ended t = t.kind ≡ Kinds.end_of_source
+Ended t = kind_number t.kind ≡ Kinds.end_of_source
 
 -- a token of another kind
 pub begun : {kind k : ℕ} → kind ≡ suc k → kind ≡ Kinds.end_of_source → ⊥
@@ -76,8 +77,8 @@ module _ (source : List ℕ) {at : ℕ} (h : at ≤ length source) where
 lower : (t : Token) (n : ℕ) → 4 ≤ n → (4 ≤ failure_at t n) × (failure_at t n ≤ n)
 unfolding failure_at
 lower t n h =
-    choice P (eqb t.kind Kinds.unknown) _ _ (λ e. (omega arith, omega arith))
-    (λ e. choice P (eqb t.kind Kinds.out_of_range) _ _ (λ e. (omega arith, omega arith)) (λ e. (h, omega arith)))
+    choice P (eqb (kind_number t.kind) Kinds.unknown) _ _ (λ e. (omega arith, omega arith))
+    (λ e. choice P (eqb (kind_number t.kind) Kinds.out_of_range) _ _ (λ e. (omega arith, omega arith)) (λ e. (h, omega arith)))
   where
     P : ℕ → Type 0
     P m = (4 ≤ m) × (m ≤ n)
@@ -90,8 +91,8 @@ unlowered t n e = rw e
 -- the source has ended at a token, or not
 pub by_end : {Q : Type 0} (t : Token) → (Ended t → Q) → ((Ended t → ⊥) → Q) → Q
 by_end {Q = Q} t f g =
-    choice (λ (b : Bool). Q) (eqb t.kind Kinds.end_of_source) true false
-    (λ e. f (eqb-true t.kind Kinds.end_of_source e)) (λ e. g (eqb-false t.kind Kinds.end_of_source e))
+    choice (λ (b : Bool). Q) (eqb (kind_number t.kind) Kinds.end_of_source) true false
+    (λ e. f (eqb-true (kind_number t.kind) Kinds.end_of_source e)) (λ e. g (eqb-false (kind_number t.kind) Kinds.end_of_source e))
 
 module _ {source : List ℕ} {t : Token} (i : Held source t) {A : Type 0} {P : A → Type 0} where
   -- a failure at a token: 6 if that token is the source's end
@@ -131,13 +132,13 @@ module _ {source : List ℕ} {A : Type 0} {P : A → Type 0} where
 
   -- a token of a kind, and what comes after it
   pub expected : {f : Token → ℕ → Got A} (kind : ℕ) {at : ℕ} → at ≤ length source
-      → ((t : Token) → Held source t → t.kind ≡ kind → Parses source P (f t)) → Parsed source P (and_then (expect kind source at) f)
+      → ((t : Token) → Held source t → kind_number t.kind ≡ kind → Parses source P (f t)) → Parsed source P (and_then (expect kind source at) f)
   unfolding expect and_then fail_at
   expected {f = f} kind {at = at} h k =
       let t = token_at source at in
       let i = token_held source h in
       choice (λ g. Parsed source P (and_then g f)) (is kind t) (got t t.next) (fail_at t 6)
-      (λ e. k t i (eqb-true t.kind kind e) t.next i.after)
+      (λ e. k t i (eqb-true (kind_number t.kind) kind e) t.next i.after)
       (λ e. not_allowed i)
 
   -- where only what comes after it counts

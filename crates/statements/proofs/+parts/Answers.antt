@@ -1,3 +1,5 @@
+use Rattle.source.specs.declared.kind.Kind.TheVariants as Kind
+use Rattle.source.proofs.KindLaws.{not_unequal_kinds, unequal_kinds}
 use mathlib.Core.Path.{◌≡◌, refl, sym, ap, ap₂, ◌∙◌}
 use Prim.Native.Nat.{◌+◌, ◌-◌}
 use lib.ListN.{length}
@@ -124,17 +126,17 @@ listed-returns-in_default t c =
     let l = c.loop.invariant.1 in
     rw c.in_default.is (list_failed l (listed_next _ _ _ l.holds c.statement-one.ensures) c.in_default.is (λ w. w))
 
-pub listed-returns-then-t-ne-SEMICOLON : goal.listed-returns-then-t-ne-SEMICOLON
-listed-returns-then-t-ne-SEMICOLON t c =
+pub listed-returns-then-ne : goal.listed-returns-then-ne
+listed-returns-then-ne t c =
     let l = c.loop.invariant.1 in
-    rw c.in-Ok.is (list_last l (listed_next _ _ _ l.holds c.statement-one.ensures) c.in-Ok.is (c.token_at-t.ensures ∙ ap (λ p. token_at c.args.body.now.reader.source.now p.next) c.in-Ok.field-0-is) c.if-t-ne-SEMICOLON.true)
+    rw c.in-Ok.is (list_last l (listed_next _ _ _ l.holds c.statement-one.ensures) c.in-Ok.is (c.token_at-t.ensures ∙ ap (λ p. token_at c.args.body.now.reader.source.now p.next) c.in-Ok.field-0-is) (unequal_kinds _ Kind.Semicolon c.ne.ensures c.if-ne.true))
 
 pub listed-loop-preserved : goal.listed-loop-preserved
 unfolding words_of
 listed-loop-preserved t c =
     let l = c.loop.invariant.1 in
     let q : length c.args.body.now.reader.source.now - c.loop.counter - 1 ≡ length c.args.body.now.reader.source.now - (c.loop.counter + 1) = omega arith in
-    (omega (arith, c.loop.invariant.0, c.statement-one.auto), rw (c.in-Ok.field-0-is, ← q) (sequel_next l (listed_next _ _ _ l.holds c.statement-one.ensures) c.in-Ok.is (c.token_at-t.ensures ∙ ap (λ p. token_at c.args.body.now.reader.source.now p.next) c.in-Ok.field-0-is) (λ _ h. h) (λ z. absurd (let h = c.loop-test.true in omega (arith, h, z))) c.if-t-ne-SEMICOLON.false))
+    (omega (arith, c.loop.invariant.0, c.statement-one.auto), rw (c.in-Ok.field-0-is, ← q) (sequel_next l (listed_next _ _ _ l.holds c.statement-one.ensures) c.in-Ok.is (c.token_at-t.ensures ∙ ap (λ p. token_at c.args.body.now.reader.source.now p.next) c.in-Ok.field-0-is) (λ _ h. h) (λ z. absurd (let h = c.loop-test.true in omega (arith, h, z))) (not_unequal_kinds _ Kind.Semicolon c.ne.ensures c.if-ne.false)))
 
 pub listed-returns : goal.listed-returns
 listed-returns t c =

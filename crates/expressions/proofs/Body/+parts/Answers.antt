@@ -1,4 +1,6 @@
 use mathlib.Core.Path.{refl, ap}
+use Rattle.source.specs.declared.kind.Kind.TheVariants as Kind
+use Rattle.source.proofs.KindLaws.{equal_kinds, other_kinds, unequal_kinds, not_unequal_kinds}
 use Rattle.grammar.specs.Expressions.{parse_bracketed}
 use Rattle.emitter.specs.Emitted.{emitted_by}
 use Rattle.expressions.proofs.Leaves.{hole_later}
@@ -26,16 +28,16 @@ bracketed-returns-in_default-close t c = close_missing _ _ _ _ c.expression-inne
 pub bracketed-returns : goal.bracketed-returns
 bracketed-returns t c = bracketed_closed _ _ _ _ c.expression-inner.ensures c.in-Ok.is c.expect-close.ensures c.in-Ok-close.is
 
-pub call-returns-then-t-ne-LEFT_PARENTHESIS : goal.call-returns-then-t-ne-LEFT_PARENTHESIS
-call-returns-then-t-ne-LEFT_PARENTHESIS t c = called_alone _ _ _ _ _ _ c.token_at-t.ensures c.if-t-ne-LEFT_PARENTHESIS.true c.emit_through.ensures.emitted
+pub call-returns-then-ne : goal.call-returns-then-ne
+call-returns-then-ne t c = called_alone _ _ _ _ _ _ c.token_at-t.ensures (unequal_kinds _ Kind.LeftParenthesis c.ne.ensures c.if-ne.true) c.emit_through.ensures.emitted
 
 pub call-returns-in_default : goal.call-returns-in_default
 call-returns-in_default t c =
-    call_failed _ _ _ _ _ _ c.token_at-t.ensures c.if-t-ne-LEFT_PARENTHESIS.false c.bracketed-argument.ensures c.in_default.is
+    call_failed _ _ _ _ _ _ c.token_at-t.ensures (not_unequal_kinds _ Kind.LeftParenthesis c.ne.ensures c.if-ne.false) c.bracketed-argument.ensures c.in_default.is
 
 pub call-returns : goal.call-returns
 call-returns t c =
-    called_with _ _ _ _ _ _ c.token_at-t.ensures c.if-t-ne-LEFT_PARENTHESIS.false c.bracketed-argument.ensures c.in-Ok.is c.emit_through-2.ensures.emitted
+    called_with _ _ _ _ _ _ c.token_at-t.ensures (not_unequal_kinds _ Kind.LeftParenthesis c.ne.ensures c.if-ne.false) c.bracketed-argument.ensures c.in-Ok.is c.emit_through-2.ensures.emitted
 
 pub chain-returns-in_default : goal.chain-returns-in_default
 chain-returns-in_default t c = start_failed _ _ _ _ _ (unaries_upto _ _ _ _ c.unaries_next-from.ensures) c.term_start_at-first.ensures c.unwrap_err.ensures
@@ -76,13 +78,13 @@ condition-returns t c = value_compared _ _ _ _ _ c.token_at-t.ensures c.bare.ens
 pub expression-returns-then-left-eq0 : goal.expression-returns-then-left-eq0
 expression-returns-then-left-eq0 t c = deep_failed _ _ _ _ c.if-left-eq0.true c.too_deep_at.ensures
 
-pub expression-returns-then-t-eq-IF : goal.expression-returns-then-t-eq-IF
-expression-returns-then-t-eq-IF t c =
-    rw (is_choice _ _ _ _ c.token_at-t.ensures _ c.if-left-eq0.false c.if-t-eq-IF.true) c.choice.ensures
+pub expression-returns-then-eq : goal.expression-returns-then-eq
+expression-returns-then-eq t c =
+    rw (is_choice _ _ _ _ c.token_at-t.ensures _ c.if-left-eq0.false (equal_kinds _ Kind.If c.eq.ensures c.if-eq.true)) c.choice.ensures
 
 pub expression-returns : goal.expression-returns
 expression-returns t c =
-    rw (is_chain _ _ _ _ c.token_at-t.ensures _ c.if-left-eq0.false c.if-t-eq-IF.false) c.chain.ensures
+    rw (is_chain _ _ _ _ c.token_at-t.ensures _ c.if-left-eq0.false (other_kinds _ Kind.If c.eq.ensures c.if-eq.false)) c.chain.ensures
 
 pub term-returns-in-Cell : goal.term-returns-in-Cell
 term-returns-in-Cell t c = begins_cell _ _ _ _ c.in-Cell.is (c.emit_read.ensures _ c.cell_from-read.ensures)

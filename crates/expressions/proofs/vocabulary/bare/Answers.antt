@@ -3,22 +3,22 @@ use Rattle.layout.specs.Words.{bare_slot}
 use Rattle.expressions.specs.Vocabulary.{looked_up}
 use Rattle.expressions.proofs.vocabulary.bare.Goals as goal
 
-pub returns-in-69 : goal.returns-in-69
+pub returns-in-Sense2 : goal.returns-in-Sense2
 unfolding looked_up find bare_slot
-returns-in-69 c = rw c.in-69.is
+returns-in-Sense2 c = rw c.in-Sense2.is
 
-pub returns-in-70 : goal.returns-in-70
+pub returns-in-Sense3 : goal.returns-in-Sense3
 unfolding looked_up find bare_slot
-returns-in-70 c = rw c.in-70.is
+returns-in-Sense3 c = rw c.in-Sense3.is
 
-pub returns-in-71 : goal.returns-in-71
+pub returns-in-Sense4 : goal.returns-in-Sense4
 unfolding looked_up find bare_slot
-returns-in-71 c = rw c.in-71.is
+returns-in-Sense4 c = rw c.in-Sense4.is
 
-pub returns-in-72 : goal.returns-in-72
+pub returns-in-Anykey : goal.returns-in-Anykey
 unfolding looked_up find bare_slot
-returns-in-72 c = rw c.in-72.is
+returns-in-Anykey c = rw c.in-Anykey.is
 
-pub returns-in-73 : goal.returns-in-73
+pub returns-in-Nokey : goal.returns-in-Nokey
 unfolding looked_up find bare_slot
-returns-in-73 c = rw c.in-73.is
+returns-in-Nokey c = rw c.in-Nokey.is

@@ -3,18 +3,18 @@ use Rattle.layout.specs.Words.{operator_form}
 use Rattle.expressions.specs.Vocabulary.{looked_up}
 use Rattle.expressions.proofs.vocabulary.operator.Goals as goal
 
-pub returns-in-40 : goal.returns-in-40
+pub returns-in-Nev : goal.returns-in-Nev
 unfolding looked_up find operator_form
-returns-in-40 c = rw c.in-40.is
+returns-in-Nev c = rw c.in-Nev.is
 
-pub returns-in-100 : goal.returns-in-100
+pub returns-in-Star : goal.returns-in-Star
 unfolding looked_up find operator_form
-returns-in-100 c = rw c.in-100.is
+returns-in-Star c = rw c.in-Star.is
 
-pub returns-in-101 : goal.returns-in-101
+pub returns-in-Slash : goal.returns-in-Slash
 unfolding looked_up find operator_form
-returns-in-101 c = rw c.in-101.is
+returns-in-Slash c = rw c.in-Slash.is
 
-pub returns-in-74 : goal.returns-in-74
+pub returns-in-Mod : goal.returns-in-Mod
 unfolding looked_up find operator_form
-returns-in-74 c = rw c.in-74.is
+returns-in-Mod c = rw c.in-Mod.is

@@ -3,14 +3,14 @@ use Rattle.layout.specs.Words.{shift_kind}
 use Rattle.expressions.specs.Vocabulary.{looked_up}
 use Rattle.expressions.proofs.vocabulary.shift_word.Goals as goal
 
-pub returns-in-58 : goal.returns-in-58
+pub returns-in-Lgl : goal.returns-in-Lgl
 unfolding looked_up find shift_kind
-returns-in-58 c = rw c.in-58.is
+returns-in-Lgl c = rw c.in-Lgl.is
 
-pub returns-in-59 : goal.returns-in-59
+pub returns-in-Als : goal.returns-in-Als
 unfolding looked_up find shift_kind
-returns-in-59 c = rw c.in-59.is
+returns-in-Als c = rw c.in-Als.is
 
-pub returns-in-60 : goal.returns-in-60
+pub returns-in-Alr : goal.returns-in-Alr
 unfolding looked_up find shift_kind
-returns-in-60 c = rw c.in-60.is
+returns-in-Alr c = rw c.in-Alr.is

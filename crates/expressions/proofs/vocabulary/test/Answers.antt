@@ -3,14 +3,14 @@ use Rattle.layout.specs.Words.{test_slot}
 use Rattle.expressions.specs.Vocabulary.{looked_up}
 use Rattle.expressions.proofs.vocabulary.test.Goals as goal
 
-pub returns-in-63 : goal.returns-in-63
+pub returns-in-Minus : goal.returns-in-Minus
 unfolding looked_up find test_slot
-returns-in-63 c = rw c.in-63.is
+returns-in-Minus c = rw c.in-Minus.is
 
-pub returns-in-64 : goal.returns-in-64
+pub returns-in-Odd : goal.returns-in-Odd
 unfolding looked_up find test_slot
-returns-in-64 c = rw c.in-64.is
+returns-in-Odd c = rw c.in-Odd.is
 
-pub returns-in-65 : goal.returns-in-65
+pub returns-in-Even : goal.returns-in-Even
 unfolding looked_up find test_slot
-returns-in-65 c = rw c.in-65.is
+returns-in-Even c = rw c.in-Even.is

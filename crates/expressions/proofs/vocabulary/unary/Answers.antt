@@ -2,46 +2,46 @@ use Rattle.prelude.specs.Choice.{find}
 use Rattle.expressions.specs.Vocabulary.{looked_up, last_slot}
 use Rattle.expressions.proofs.vocabulary.unary.Goals as goal
 
-pub returns-in-44 : goal.returns-in-44
+pub returns-in-Ssp : goal.returns-in-Ssp
 unfolding looked_up find last_slot
-returns-in-44 c = rw c.in-44.is
+returns-in-Ssp c = rw c.in-Ssp.is
 
-pub returns-in-45 : goal.returns-in-45
+pub returns-in-Ssm : goal.returns-in-Ssm
 unfolding looked_up find last_slot
-returns-in-45 c = rw c.in-45.is
+returns-in-Ssm c = rw c.in-Ssm.is
 
-pub returns-in-46 : goal.returns-in-46
+pub returns-in-Chs : goal.returns-in-Chs
 unfolding looked_up find last_slot
-returns-in-46 c = rw c.in-46.is
+returns-in-Chs c = rw c.in-Chs.is
 
-pub returns-in-47 : goal.returns-in-47
+pub returns-in-Csa : goal.returns-in-Csa
 unfolding looked_up find last_slot
-returns-in-47 c = rw c.in-47.is
+returns-in-Csa c = rw c.in-Csa.is
 
-pub returns-in-48 : goal.returns-in-48
+pub returns-in-Not : goal.returns-in-Not
 unfolding looked_up find last_slot
-returns-in-48 c = rw c.in-48.is
+returns-in-Not c = rw c.in-Not.is
 
-pub returns-in-49 : goal.returns-in-49
+pub returns-in-Icleft : goal.returns-in-Icleft
 unfolding looked_up find last_slot
-returns-in-49 c = rw c.in-49.is
+returns-in-Icleft c = rw c.in-Icleft.is
 
-pub returns-in-50 : goal.returns-in-50
+pub returns-in-Cleft : goal.returns-in-Cleft
 unfolding looked_up find last_slot
-returns-in-50 c = rw c.in-50.is
+returns-in-Cleft c = rw c.in-Cleft.is
 
-pub returns-in-51 : goal.returns-in-51
+pub returns-in-Swop : goal.returns-in-Swop
 unfolding looked_up find last_slot
-returns-in-51 c = rw c.in-51.is
+returns-in-Swop c = rw c.in-Swop.is
 
-pub returns-in-52 : goal.returns-in-52
+pub returns-in-Icright : goal.returns-in-Icright
 unfolding looked_up find last_slot
-returns-in-52 c = rw c.in-52.is
+returns-in-Icright c = rw c.in-Icright.is
 
-pub returns-in-53 : goal.returns-in-53
+pub returns-in-Cright : goal.returns-in-Cright
 unfolding looked_up find last_slot
-returns-in-53 c = rw c.in-53.is
+returns-in-Cright c = rw c.in-Cright.is
 
-pub returns-in-54 : goal.returns-in-54
+pub returns-in-Abs : goal.returns-in-Abs
 unfolding looked_up find last_slot
-returns-in-54 c = rw c.in-54.is
+returns-in-Abs c = rw c.in-Abs.is
