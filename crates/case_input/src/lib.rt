@@ -31,17 +31,18 @@ fn appended(value: u32, digit: u8) -> u32
 pub fn parse_number(text: &[u8], at: usize) -> Number
     ensures { result ≡ number_from (drop at text.now) 0 at }
 {
-    let mut at = at;
     let mut value: u32 = 0;
-    while at < text.len() {
-        let b = text[at];
-        at += 1;
+    for i in at..text.len() {
+        let b = text[i];
         if !is_digit(b) {
-            break;
+            return Number { value, next: i + 1 };
         }
         value = appended(value, b);
     }
-    Number { value, next: at }
+    Number {
+        value,
+        next: at.max(text.len()),
+    }
 }
 
 // The number in 16 bits.

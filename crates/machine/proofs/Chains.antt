@@ -13,9 +13,9 @@ unfolding follow_of
 follow_end image zero at h = refl
 follow_end image (suc n) at h = refl
 
-pub follow_long : (image : List ℕ) (at : ℕ) → follow_of image 0 true at ≡ Err LongChain
+pub follow_long : (image : List ℕ) (n at : ℕ) → n ≡ 0 → follow_of image n true at ≡ Err LongChain
 unfolding follow_of
-follow_long image at = refl
+follow_long image n at h = rw h
 
 -- the address that the word w gives
 abbrev pub onwards : List ℕ → ℕ → ℕ

@@ -12,6 +12,9 @@ pub struct Reached {
     pub passed: u16,
 }
 
+// How many indirect words an address may pass.
+const LONGEST_CHAIN: u16 = 16;
+
 pub fn base(p: u16, sector: bool, address: u16) -> u16
     requires { (p < 16384) × (address < 512) }
     ensures { (result ≡ base_of p sector address) × (result < 16384) }
@@ -44,18 +47,22 @@ pub fn follow(image: &Image, indirect: bool, at: u16) -> Result<Reached, Failure
 {
     let mut at = at;
     let mut indirect = indirect;
-    let mut remaining: u16 = 16;
-    while indirect {
-        if remaining == 0 {
-            return Err(Failure::LongChain);
+    for passed in 0..LONGEST_CHAIN {
+        if !indirect {
+            return Ok(Reached {
+                address: at,
+                passed,
+            });
         }
         let w = image[at as usize];
         at = indexed(image, w % MEMORY, field::is_tagged(w));
         indirect = field::is_indirect(w);
-        remaining -= 1;
+    }
+    if indirect {
+        return Err(Failure::LongChain);
     }
     Ok(Reached {
         address: at,
-        passed: 16 - remaining,
+        passed: LONGEST_CHAIN,
     })
 }

@@ -150,6 +150,7 @@ fn make_steps(image: &mut Image, m: Machine, clock: Clock, request: Request) -> 
     let budget = request.budget;
     let mut m = m;
     let mut steps: u32 = 0;
+    // A `for` over the budget takes an eighth longer, or more.
     loop {
         if m.halted {
             return ended(request, steps, Outcome::Halted, m, clock);
