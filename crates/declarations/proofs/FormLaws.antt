@@ -15,7 +15,7 @@ use Rattle.source.specs.declared.Token.{Token}
 use Rattle.source.specs.Tokens.{token_at}
 use Rattle.tree.specs.Tree.{Name, Item, Stmts, Declaration, Program}
 use Rattle.tree.specs.Symbols.{declare_item, local_scope}
-use Rattle.layout.specs.Allocation.{Allocation, with_scope, start, allocate, allocated}
+use Rattle.layout.specs.Allocation.{Allocation, start, allocate, allocated}
 use Rattle.grammar.specs.Vocabulary.{as_one_of}
 use Rattle.layout.specs.Limits.{name_limit, space_limit, declaration_limit, main_limit}
 use Rattle.grammar.specs.Parse.{Got, and_then, fail_at, within, is, expect, snoc, repeat}

@@ -1,9 +1,9 @@
 -- New names: the failure's number, then the part.
-use Prim.Native.Nat.{ℕ, zero, suc, ◌*◌, ◌≤◌, ◌<◌}
+use Prim.Native.Nat.{ℕ, ◌*◌, ◌≤◌, ◌<◌}
 use mathlib.Core.Path.{◌≡◌, refl, sym, ap, ◌∙◌}
 use mathlib.Core.Bool.{Bool, true, false}
 use mathlib.Core.List.{List}
-use borrow.Author.Tests.{eq-eqb, ne_eqb, le-leb, lt-leb, le-ltb, lt-ltb, leb-false}
+use borrow.Author.Tests.{eq-eqb, le-leb, leb-false}
 use lib.Dec.{eqb, leb}
 use lib.ListN.{length}
 use Rattle.prelude.specs.Choice.{whether}
@@ -15,7 +15,7 @@ use Rattle.tree.specs.Tree.{Name}
 use Rattle.tree.specs.Symbols.{Scope, is_taken}
 use Rattle.grammar.specs.Parse.{Got, and_then, fail_at, within, is}
 use Rattle.grammar.specs.Parse.Got.{got}
-use Rattle.layout.specs.Limits.{word_limit, name_limit}
+use Rattle.layout.specs.Limits.{name_limit}
 use Rattle.grammar.specs.Declarations.{ItemKeyword, new_name, item_limit}
 use Rattle.symbols.specs.declared.Packed.{Packed}
 use Rattle.symbols.specs.Packing.{pack_of, unpack}
@@ -30,6 +30,14 @@ use Rattle.declarations.proofs.ParseLaws.{within_then}
 
 pub held_length : (n : ℕ) (table : List ℕ) → 7 * n ≤ length table → length (live_names n table) ≡ n
 held_length n table h = ap length (held_all n table h) ∙ entries_length n table
+
+-- a name of the source that is not taken fails where as many are alive as may be
+pub too_many :
+    (n level taken : ℕ) (table : List ℕ) (number : ℕ) (t : Token) (name : Name) → 7 * n ≤ length table → kind_number t.kind ≡ Kinds.name
+    → is_taken (record { names = live_names n table; level = level_of level; taken = 0 }) name ≡ false → 512 ≤ n
+    → name_failure (record { names = live_names n table; level = level_of level; taken = taken }) number t name ≡ 10
+unfolding name_failure is_taken
+too_many n level taken table number t name h k u l = rw (eq-eqb (kind_number t.kind) Kinds.name k, u, held_length n table h, le-leb 512 n l)
 
 -- ---- A new name
 
