@@ -19,7 +19,7 @@ use Rattle.semantics.specs.Agreement.{Agrees, Demand3, Loadable}
 use Rattle.semantics.proofs.Demand.Theorem.{demand3}
 use Rattle.semantics.proofs.Demand.Loading as loading
 use Rattle.compiler.specs.declared.Program.{Program as Counts}
-use Rattle.compiler.specs.Compile.{scratch_words, result_on, answer_of, image_after, Answer, accepted_with}
+use Rattle.compiler.specs.Compile.{scratch_words, result_on, answer_of, image_after, accepted_with}
 use Rattle.compiler.specs.DemandThree.{Calls, delivered, Demand3Called}
 use Rattle.layout.specs.Addresses.{memory_words}
 

@@ -3,7 +3,6 @@ use Prim.Native.Nat.{ℕ, ◌≤◌, ◌<◌}
 use Rattle.std.specs.Prelude.{Ok, Err}
 use Rattle.std.specs.Prelude.{Result as Answered}
 use mathlib.Core.Path.{◌≡◌, refl, sym, ap, subst, ◌∙◌, fun_ext}
-use mathlib.Core.Bool.{Bool}
 use mathlib.Core.List.{List, [], ◌∷◌, ◌++◌}
 use native.Mathlib.Omega.{arith}
 use borrow.Author.Tests.{le-leb, lt-leb, eq-eqb, ne_eqb}
@@ -18,11 +17,9 @@ use Rattle.grammar.specs.Program.{parse_program}
 use Rattle.layout.specs.Map.{declared, finished, plan_of}
 use Rattle.compilation.specs.Compile.{Result, result_of, compile_def, compiled}
 use Rattle.layout.specs.Emission.{emit_program}
-use Rattle.emitter.specs.declared.Output.{Output}
 use Rattle.memory_map.specs.EmittedImage.{EmittedImage}
 use Rattle.memory_map.proofs.EmittedImage.{emitted_image}
 use Rattle.declarations.specs.declared.SectorEnds.{SectorEnds}
-use Rattle.declarations.specs.declared.Allocation.{Allocation}
 use Rattle.declarations.specs.declared.Reading.{Reading}
 use Rattle.parser.specs.declared.Failure.{Failure}
 use Rattle.parser.specs.Failures.{number_of}
@@ -32,7 +29,7 @@ use Rattle.declarations.specs.Scopes.{table_words}
 use Rattle.declarations.specs.Procedures.{program_in, ProgramEmitted, program_on}
 use Rattle.declarations.proofs.SectorLaws.{each_end}
 use Rattle.parser.proofs.ReadLaws.{never, came, failed_as, reads_on}
-use Rattle.compiler.specs.Compile.{scratch_words, result_on, answer_of, image_after, Answers, Answer, accepted_with, failed_with}
+use Rattle.compiler.specs.Compile.{scratch_words, result_on, answer_of, image_after, Answers, Answer, failed_with}
 use Rattle.compiler.specs.Readings.{counted_of}
 use Rattle.memory_map.proofs.Sectors.{pool_ends}
 use Rattle.layout.specs.Addresses.{memory_words}
