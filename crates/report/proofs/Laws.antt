@@ -77,8 +77,14 @@ before_zeros bs (suc n) h =
     k = position_or_len is_some_byte (reverse (take n bs))
 
     go : (t : Bool) → eqb (get_or bs n 0) 0 ≡ t → take (n - k) bs ≡ trimmed (take n bs) → take (suc n - cond (not (not t)) (1 + k) 0) bs ≡ trimmed (take (suc n) bs)
-    go true q e = ap (λ m. take m bs) (omega arith) ∙ e ∙ sym (zero_passed bs (suc n) (omega arith) h (eqb-true _ _ q))
-    go false q e = ap (λ m. take m bs) (omega arith) ∙ other_stays bs (suc n) (omega arith) h (eqb-false _ _ q)
+    go true q e =
+        let last : suc n - 1 ≡ n = omega arith in
+        let one : suc n - (1 + k) ≡ n - k = omega arith in
+        ap (λ m. take m bs) one ∙ e ∙ ap (λ m. trimmed (take m bs)) (sym last) ∙ sym (zero_passed bs (suc n) (omega arith) h (rw last (eqb-true _ _ q)))
+    go false q e =
+        let last : suc n - 1 ≡ n = omega arith in
+        let none : suc n - 0 ≡ suc n = omega arith in
+        ap (λ m. take m bs) none ∙ other_stays bs (suc n) (omega arith) h (λ z. eqb-false (get_or bs n 0) 0 q (rw last at z))
 
 pub trimmed_at : (bs : List ℕ) {k : ℕ} → k ≡ unwrap_or (position is_some_byte (reverse bs)) (length bs) → (take (length bs - k) bs ≡ trimmed bs) × (length bs - k ≤ length bs)
 trimmed_at bs {k} e =
