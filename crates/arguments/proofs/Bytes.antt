@@ -1,9 +1,10 @@
 -- Bytes that all pass a test, and a count of turns, byte by byte.
 use Prim.Native.Nat.{ℕ, ◌+◌, ◌-◌, ◌*◌, ◌≤◌, ◌<◌}
-use mathlib.Core.Path.{◌≡◌, refl}
+use mathlib.Core.Path.{◌≡◌, refl, ap}
 use mathlib.Core.Bool.{Bool, true, false, ◌&&◌}
 use mathlib.Core.List.{List, [], ◌∷◌}
-use mathlib.Core.Option.{Option, none, some}
+use Rattle.std.specs.Prelude.{Option, Some, None}
+use Rattle.std.specs.List.{list_all}
 use native.Mathlib.Numerals.{add-one}
 use native.Mathlib.Omega.{arith}
 use borrow.Author.Tests.{le-leb, lt-leb, leb-true}
@@ -20,18 +21,10 @@ first s i h = rw (add-one, drop-cons s i 0 h)
 
 -- ---- All bytes
 
-module _ (p : ℕ → Bool) (s : List ℕ) (i : ℕ) where
-  pub all_next : i < length s → p (get_or s i 0) ≡ true → all p (drop i s) ≡ all p (drop (i + 1) s)
-  unfolding all
-  all_next h e = rw (first s i h, e)
-
-  pub all_not : i < length s → p (get_or s i 0) ≡ false → all p (drop i s) ≡ false
-  unfolding all
-  all_not h e = rw (first s i h, e)
-
-  pub all_done : length s ≤ i → all p (drop i s) ≡ true
-  unfolding all
-  all_done h = rw (drop_of_length-le s h)
+pub same_all : (p : ℕ → Bool) (s : List ℕ) → list_all p s ≡ all p s
+unfolding all
+same_all p [] = refl
+same_all p (b ∷ bs) = ap (λ t. p b && t) (same_all p bs)
 
 -- ---- A count of turns
 
@@ -53,14 +46,14 @@ unfolding number
 grows [] n = omega arith
 grows (b ∷ bs) n = let m = grows bs (10 * n + (b - 48)) in omega arith
 
-too_many : (digits : Bool) (n : ℕ) → 1000000 < n → count_of digits n ≡ none
+too_many : (digits : Bool) (n : ℕ) → 1000000 < n → count_of digits n ≡ None
 too_many false n h = refl
 too_many true n h = rw (le-leb 1 n (omega arith), lt-leb n 1000000 h)
 
-pub over : (n : ℕ) (bs : List ℕ) → 1000000 < n → count_from n bs ≡ none
+pub over : (n : ℕ) (bs : List ℕ) → 1000000 < n → count_from n bs ≡ None
 over n bs h = let m = grows bs n in too_many (all is_digit bs) (number 10 n bs) (omega arith)
 
-pub counted : (n : ℕ) → 0 < n → n ≤ 1000000 → count_of true n ≡ some n
+pub counted : (n : ℕ) → 0 < n → n ≤ 1000000 → count_of true n ≡ Some n
 counted n h l = rw (le-leb 1 n h, le-leb n 1000000 l)
 
 module _ (s : List ℕ) (i n : ℕ) where
@@ -68,7 +61,7 @@ module _ (s : List ℕ) (i n : ℕ) where
   unfolding all number
   digit h e = rw (first s i h, e)
 
-  pub other : i < length s → is_digit (get_or s i 0) ≡ false → count_from n (drop i s) ≡ none
+  pub other : i < length s → is_digit (get_or s i 0) ≡ false → count_from n (drop i s) ≡ None
   unfolding all number
   other h e = rw (first s i h, e)
 
@@ -76,6 +69,6 @@ module _ (s : List ℕ) (i n : ℕ) where
   unfolding all number
   done h = rw (drop_of_length-le s h)
 
-pub ruleset for_all_switches = (all_next, all_not, all_done)
+pub ruleset for_switches = (same_all)
 
 pub ruleset for_turns = (digit, other, over, done, counted, bounds)

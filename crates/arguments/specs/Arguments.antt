@@ -1,26 +1,18 @@
 -- What is typed behind a program's name.
-use Rattle.std.specs.Prelude.{ℕ, Bool, ◌&&◌, List, eqb, length, get_or}
-use Rattle.std.proofs.Math.Option.{Option, none, some}
+use Rattle.std.specs.Prelude.{ℕ, Option, Some, None, Bool, ◌&&◌, List, eqb, length, get_or}
 use Rattle.prelude.specs.Choice.{whether, between}
 use Rattle.prelude.specs.Text.{all}
 use Rattle.effect.specs.declared.Switches.{Switches}
 use Rattle.source.specs.Bytes.{is_digit}
 use Rattle.source.specs.Tokens.{number}
-use Rattle.arguments.specs.declared.TurnsArgument.{TurnsArgument}
-use Rattle.arguments.specs.declared.SwitchesArgument.{SwitchesArgument}
 
 -- a number that counts turns, if what it was read from was digits alone: from 1 to 1,000,000
 abbrev pub count_of : Bool → ℕ → Option ℕ
-count_of digits n = whether (digits && between 1 1000000 n) (λ _. some n) (λ _. none)
+count_of digits n = whether (digits && between 1 1000000 n) (λ _. Some n) (λ _. None)
 
 -- a count of turns in decimal digits, zeros in front allowed; no digit makes 0, which is no count (O9)
 unfoldable pub turns_of : List ℕ → Option ℕ
 turns_of bs = count_of (all is_digit bs) (number 10 0 bs)
-
--- the code's answer
-abbrev pub turns_in : TurnsArgument → Option ℕ
-turns_in (TurnsArgument.Turns n) = some n
-turns_in TurnsArgument.Nonsense = none
 
 -- a switch is `0` or `1`, and set if it is `1`
 abbrev pub is_switch : ℕ → Bool
@@ -36,9 +28,4 @@ first_four bs =
 
 -- the four sense switches: four bytes, each a switch (O9)
 unfoldable pub switches_of : List ℕ → Option Switches
-switches_of bs = whether (eqb (length bs) 4 && all is_switch bs) (λ _. some (first_four bs)) (λ _. none)
-
--- the code's answer
-abbrev pub switches_in : SwitchesArgument → Option Switches
-switches_in (SwitchesArgument.Set s) = some s
-switches_in SwitchesArgument.Nonsense = none
+switches_of bs = whether (eqb (length bs) 4 && all is_switch bs) (λ _. Some (first_four bs)) (λ _. None)

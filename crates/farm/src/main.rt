@@ -3,9 +3,7 @@
 #![tactic(auto)]
 
 use compiler::SCRATCH_WORDS;
-use digits::{put_decimal, put_text};
 use effect::Switches;
-use failure_report::put_words;
 use machine::Outcome;
 use turns::{run_turns, start};
 
@@ -23,11 +21,7 @@ fn run(image: &mut [u16], entry: u16) -> bool {
         four: false,
     };
     let ran = run_turns(image, start(entry, down), 1);
-    let outcome = ran.outcome;
-    if let Outcome::Halted = outcome {
-        return true;
-    }
-    false
+    matches!(ran.outcome, Outcome::Halted)
 }
 
 // Compiles the recipe and runs it; false if one of the two failed.
@@ -44,32 +38,19 @@ fn compile_and_run(image: &mut [u16; 16384]) -> bool {
     }
 }
 
-fn put_field(out: &mut [u8], at: usize, text: &[u8], word: u16) -> usize {
-    let next = put_text(out, at, text);
-    put_decimal(out, next, word as usize)
-}
-
-fn put_line(out: &mut [u8], image: &[u16; 16384]) -> usize {
-    let one = put_field(out, 0, b"Farm, litres: Upper Field, ", image[LITRES]);
-    let two = put_field(out, one, b"; Mill Lane, ", image[LITRES + 1]);
-    let three = put_field(out, two, b"; Long Acre, ", image[LITRES + 2]);
-    let four = put_field(out, three, b". Total, ", image[TOTAL]);
-    put_text(out, four, b".\n")
-}
-
 fn print_line(rt: &impl Print, image: &[u16; 16384]) {
-    let mut out = [0u8; 256];
-    let size = put_line(&mut out, image);
-    output::print_start(rt, &out, size);
+    let upper = image[LITRES];
+    let mill = image[LITRES + 1];
+    let long = image[LITRES + 2];
+    let total = image[TOTAL];
+    let _ = println!(rt;
+        "Farm, litres: Upper Field, {upper}; Mill Lane, {mill}; Long Acre, {long}. Total, {total}."
+    );
 }
 
-fn print_failure(rt: &impl Print, number: u16) {
-    let mut out = [0u8; 128];
-    let one = put_field(&mut out, 0, b"The page failed with ", number);
-    let two = put_text(&mut out, one, b": ");
-    let three = put_words(&mut out, two, number);
-    let size = put_text(&mut out, three, b"\n");
-    output::print_start(rt, &out, size);
+fn print_failure(rt: &impl Print, failure: page::Failure) {
+    let number = failure.number();
+    let _ = println!(rt; "The page failed with {number}: {failure}");
 }
 
 // The collection page of the same farms.
@@ -78,8 +59,8 @@ fn print_page(rt: &impl Print, image: &[u16; 16384]) {
     let mut out = [0u8; 93];
     let answer = page::page(b"Upper Field\nMill Lane\nLong Acre\n", &litres, &mut out);
     match answer {
-        page::Answer::Made { length } => output::print_start(rt, &out, length),
-        page::Answer::Failed { number } => print_failure(rt, number),
+        Ok(length) => output::print_start(rt, &out, length),
+        Err(failure) => print_failure(rt, failure),
     }
 }
 

@@ -1,7 +1,6 @@
 // The examples of docs/LANGUAGE.md, and README's first: a heading for each source, and below it what `run` prints of it.
 #![tactic(auto)]
 
-use arguments::SwitchesArgument;
 use compiler::SCRATCH_WORDS;
 use effect::Switches;
 use output::{print, print_start};
@@ -15,9 +14,7 @@ fn any_set(switches: Switches) -> bool {
 fn heading(rt: &impl Print, name: &[u8], turns: u32, digits: &[u8], switches: Switches) {
     print(rt, name);
     if turns != 1 || any_set(switches) {
-        print(rt, b" ");
-        output::print_decimal(rt, turns as u64);
-        print(rt, b" ");
+        let _ = print!(rt; " {turns} ");
         print(rt, digits);
     }
     print(rt, b"\n");
@@ -45,14 +42,12 @@ fn show_file(rt: &(impl Files + Print), name: &str, turns: u32, switches: Switch
 
 // One file, with so many turns and the switches as four digits.
 fn example(rt: &(impl Files + Print), name: &str, turns: u32, digits: &[u8]) {
-    let argument = arguments::switches(digits);
-    match argument {
-        SwitchesArgument::Set(switches) => {
-            heading(rt, name.as_bytes(), turns, digits, switches);
-            show_file(rt, name, turns, switches);
-        }
-        SwitchesArgument::Nonsense => print(rt, b"switches are four digits 0 or 1\n"),
-    }
+    let Some(switches) = arguments::switches(digits) else {
+        print(rt, b"switches are four digits 0 or 1\n");
+        return;
+    };
+    heading(rt, name.as_bytes(), turns, digits, switches);
+    show_file(rt, name, turns, switches);
 }
 
 fn first_programs(rt: &(impl Files + Print)) {

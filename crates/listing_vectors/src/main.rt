@@ -21,9 +21,7 @@ fn case(rt: &impl Print, text: &[u8], at: usize, number: u32) -> usize {
     let size = parse_number(text, at);
     let from = size.next;
     let end = part_end(text, from, size.value);
-    output::print(rt, b"case ");
-    output::print_decimal(rt, number as u64);
-    output::print(rt, b"\n");
+    let _ = println!(rt; "case {number}");
     if from <= end {
         listing(rt, &text[from..end]);
     }

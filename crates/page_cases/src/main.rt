@@ -3,7 +3,6 @@
 
 ghost use Rattle.std.specs.Prelude.{◌≤◌};
 
-use page::Answer;
 use page_output::MARK;
 
 mod print;
@@ -17,7 +16,7 @@ const ROOM: usize = 128;
 fn three_farms(rt: &impl Print) {
     let litres = [2140u16, 1875, 960];
     let mut out = [MARK; 93];
-    page::page(b"Upper Field\nMill Lane\nLong Acre\n", &litres, &mut out);
+    let _ = page::page(b"Upper Field\nMill Lane\nLong Acre\n", &litres, &mut out);
     output::print(rt, &out);
 }
 
@@ -25,8 +24,8 @@ fn attempt(rt: &impl Print, case: &[u8], names: &[u8], litres: &[u16], out: &mut
     let answer = page::page(names, litres, &mut *out);
     output::print(rt, case);
     match answer {
-        Answer::Made { length } => print::made(rt, out, length),
-        Answer::Failed { number } => print::failed(rt, out, number),
+        Ok(length) => print::made(rt, out, length),
+        Err(failure) => print::failed(rt, out, failure),
     }
 }
 

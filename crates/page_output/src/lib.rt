@@ -7,14 +7,7 @@ use output::print;
 pub const MARK: u8 = 1;
 
 fn kept(out: &[u8], from: usize) -> bool {
-    let mut i = from;
-    while i < out.len() {
-        if out[i] != MARK {
-            return false;
-        }
-        i += 1;
-    }
-    true
+    out.iter().skip(from).all(|byte| *byte == MARK)
 }
 
 // Whether the bytes from an offset on are marked, at the end of a line.

@@ -2,19 +2,12 @@
 #![tactic(auto)]
 
 use case_input::{parse_number, part_end, word};
-use page::Answer;
 use page_output::{MARK, print_kept};
 
 // The most farms of a case, and the longest output.
 const FARMS: usize = 1024;
 
 const ROOM: usize = 32768;
-
-fn print_number(rt: &impl Print, name: &[u8], n: usize) {
-    output::print(rt, name);
-    output::print_decimal(rt, n as u64);
-    output::print(rt, b"\n");
-}
 
 // The page, of so many bytes, and whether those behind it are kept.
 fn print_output(rt: &impl Print, out: &[u8], length: usize) {
@@ -25,12 +18,13 @@ fn print_output(rt: &impl Print, out: &[u8], length: usize) {
 fn print_page(rt: &impl Print, names: &[u8], litres: &[u16], out: &mut [u8]) {
     let answer = page::page(names, litres, &mut *out);
     match answer {
-        Answer::Made { length } => {
-            print_number(rt, b"made ", length);
+        Ok(length) => {
+            let _ = println!(rt; "made {length}");
             print_output(rt, out, length);
         }
-        Answer::Failed { number } => {
-            print_number(rt, b"failed ", number as usize);
+        Err(failure) => {
+            let number = failure.number();
+            let _ = println!(rt; "failed {number}");
             print_output(rt, out, 0);
         }
     }
@@ -48,12 +42,10 @@ fn lend(rt: &impl Print, names: &[u8], litres: &[u16], size: u32) {
 // Answers where the next number starts.
 fn parse_litres(text: &[u8], at: usize, litres: &mut [u16]) -> usize {
     let mut next = at;
-    let mut i = 0;
-    while i < litres.len() {
+    for litre in litres.iter_mut() {
         let number = parse_number(text, next);
-        litres[i] = word(number);
+        *litre = word(number);
         next = number.next;
-        i += 1;
     }
     next
 }
@@ -75,7 +67,7 @@ fn case(rt: &impl Print, text: &[u8], at: usize, number: u32) -> usize {
     let count = parse_number(text, room.next);
     let size = count.value as usize;
     let mut litres = [0u16; FARMS];
-    print_number(rt, b"case ", number as usize);
+    let _ = println!(rt; "case {number}");
     if size <= FARMS {
         return farms(rt, text, count.next, &mut litres[0..size], room.value);
     }

@@ -13,20 +13,7 @@ use output::{print, print_start};
 const MARK: u16 = 7;
 
 fn all_are(words: &[u16], value: u16) -> bool {
-    let mut i = 0;
-    while i < words.len() {
-        if words[i] != value {
-            return false;
-        }
-        i += 1;
-    }
-    true
-}
-
-fn print_number(rt: &impl Print, name: &[u8], n: u32) {
-    print(rt, name);
-    output::print_decimal(rt, n as u64);
-    print(rt, b"\n");
+    words.iter().all(|word| *word == value)
 }
 
 // The image as it was emitted, from its entry, all registers 0.
@@ -63,11 +50,10 @@ fn run(rt: &impl Print, image: &mut [u16], entry: u16) {
     } else {
         print(rt, b"run=other\n");
     }
-    print_number(rt, b"steps=", report.steps);
-    let left = report.machine.registers;
-    print_number(rt, b"a=", left.a as u32);
-    print_number(rt, b"b=", left.b as u32);
-    print_number(rt, b"c=", if left.c { 1 } else { 0 });
+    let steps = report.steps;
+    let Registers { a, b, c } = report.machine.registers;
+    let carry = c as u16;
+    let _ = println!(rt; "steps={steps}\na={a}\nb={b}\nc={carry}");
 }
 
 // Answers whether an image was emitted.

@@ -1,29 +1,20 @@
 // Reading a source to its end.
-ghost use Rattle.run.specs.Inputs.{Fits};
+ghost use Rattle.std.specs.Prelude.{◌≤◌, length, IfOk};
 
-use std::io::Read;
+use std::io::{self, Read};
 
-#[derive(Drop)]
-pub enum Input {
-    Bytes { count: usize },
-    Unreadable,
-}
-
-// Reads until the text is full or the input ends. A read that fails, be it the first or a later one, makes the whole input unreadable: a part of a
-// source would be another source.
-#[tactic(auto, unfolding(crate::specs::Inputs::bytes_read))]
-pub fn read_source(from: &mut impl Read, text: &mut [u8]) -> Input
-    ensures { Fits result text.new }
+// Reads until the text is full or the input ends, and answers how many bytes stand at the start of the text. A read that fails, be it the first or a
+// later one, makes the whole input unreadable: a part of a source would be another source.
+pub fn read_source(from: &mut impl Read, text: &mut [u8]) -> io::Result<usize>
+    ensures { IfOk result (λ n. n ≤ length text.new) }
 {
     let mut n = 0;
     while n < text.len() {
-        let Ok(more) = from.read(&mut text[n..]) else {
-            return Input::Unreadable;
-        };
+        let more = from.read(&mut text[n..])?;
         if more == 0 {
-            return Input::Bytes { count: n };
+            break;
         }
         n += more;
     }
-    Input::Bytes { count: n }
+    Ok(n)
 }

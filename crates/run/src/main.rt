@@ -1,14 +1,13 @@
 // run [FILE or -] [TURNS] [SWITCHES]: compiles a source from a file or from standard input, runs it and prints what came of it (O10).
 #![tactic(auto)]
 
-use arguments::{SwitchesArgument, TurnsArgument};
 use compiler::SCRATCH_WORDS;
 use effect::Switches;
-use input::Input;
 use output::{print, print_start};
 use std::env::{Env, FillError};
 use std::fs::{File, Files};
 use std::io::Read;
+use text::Text;
 
 mod input;
 
@@ -27,22 +26,22 @@ fn usage(rt: &impl Print) {
 }
 
 // The second argument, or one turn where there is none. An argument that does not fit the buffer makes no sense.
-fn turns_argument(rt: &impl Env) -> TurnsArgument {
+fn turns_argument(rt: &impl Env) -> Option<u32> {
     let mut text = [0u8; LONGEST_ARGUMENT];
     match rt.arg(2, &mut text) {
         Ok(n) => arguments::turns(&text[..n]),
-        Err(FillError::NotPresent) => TurnsArgument::Turns(1),
-        Err(FillError::TooLong) => TurnsArgument::Nonsense,
+        Err(FillError::NotPresent) => Some(1),
+        Err(FillError::TooLong) => None,
     }
 }
 
 // The third, or all switches down.
-fn switches_argument(rt: &impl Env) -> SwitchesArgument {
+fn switches_argument(rt: &impl Env) -> Option<Switches> {
     let mut text = [0u8; LONGEST_ARGUMENT];
     match rt.arg(3, &mut text) {
         Ok(n) => arguments::switches(&text[..n]),
         Err(FillError::NotPresent) => arguments::switches(b"0000"),
-        Err(FillError::TooLong) => SwitchesArgument::Nonsense,
+        Err(FillError::TooLong) => None,
     }
 }
 
@@ -66,22 +65,22 @@ fn show(rt: &impl Print, source: &[u8], asked: Asked) {
     print_start(rt, &out, size);
 }
 
-#[tactic(auto, unfolding(crate::specs::Inputs::bytes_read))]
 fn run_input(rt: &impl Print, from: &mut impl Read, asked: Asked) {
     // One byte more than the longest source: a longer one fails by that byte (F3).
     let mut text = [0u8; 8193];
-    let read = input::read_source(from, &mut text);
-    match read {
-        Input::Bytes { count } => show(rt, &text[..count], asked),
-        Input::Unreadable => print(rt, b"The input cannot be read.\n"),
+    match input::read_source(from, &mut text) {
+        Ok(count) => show(rt, &text[..count], asked),
+        Err(_) => print(rt, b"The input cannot be read.\n"),
     }
 }
 
 fn cannot_open(rt: &impl Print, path: &[u8]) {
     let mut out = [0u8; 8192];
-    let one = digits::put_text(&mut out, 0, b"The file \"");
-    let two = failure_report::put_visible(&mut out, one, path);
-    let size = digits::put_text(&mut out, two, b"\" cannot be opened.\n");
+    let mut text = Text::new(&mut out);
+    text.put(b"The file \"");
+    failure_report::put_visible(&mut text, path);
+    text.put(b"\" cannot be opened.\n");
+    let size = text.len;
     print_start(rt, &out, size);
 }
 
@@ -121,11 +120,11 @@ fn main(rt: HostRuntime) {
         usage(&rt);
         return;
     }
-    let TurnsArgument::Turns(turns) = turns else {
+    let Some(turns) = turns else {
         print(&rt, b"TURNS must be a number from 1 to 1000000.\n");
         return;
     };
-    let SwitchesArgument::Set(switches) = switches else {
+    let Some(switches) = switches else {
         print(&rt, b"SWITCHES must be four digits, each 0 or 1.\n");
         return;
     };

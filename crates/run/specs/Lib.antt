@@ -1,2 +1,0 @@
--- What is read.
-pub mod Inputs
