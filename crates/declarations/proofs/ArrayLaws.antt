@@ -4,10 +4,11 @@ use mathlib.Core.Path.{◌≡◌, refl, sym, ap, ◌∙◌}
 use mathlib.Core.Bool.{Bool, true, false}
 use mathlib.Core.List.{List, [], ◌∷◌, ◌++◌}
 use native.Mathlib.Omega.{arith}
-use borrow.Author.Tests.{eq-eqb, ne_eqb, lt-ltb, le-ltb, ltb-true}
-use lib.Dec.{eqb, leb, ltb}
+use borrow.Author.Tests.{eq-eqb, ne_eqb, ltb-true}
+use lib.Dec.{leb, ltb}
 use lib.ListN.{length, set, replicate, length-append}
 use Rattle.prelude.specs.Choice.{whether}
+use Rattle.source.specs.Kinds.{kind_number}
 use Rattle.source.specs.Kinds
 use Rattle.source.specs.declared.Token.{Token}
 use Rattle.source.specs.Tokens.{token_at}
@@ -153,11 +154,11 @@ pub none_stored : (image : List ℕ) {after : List ℕ} (first size : ℕ) → a
 none_stored image first size i = i ∙ ap (stored image first) (sym (padded_none size))
 
 module _ (source : List ℕ) (names : Names) (size at : ℕ) {t : Token} (e : t ≡ token_at source at) where
-  pub initials_none : (t.kind ≡ Kinds.left_parenthesis → ⊥) → parse_initials source names size at ≡ got [] at
+  pub initials_none : (kind_number t.kind ≡ Kinds.left_parenthesis → ⊥) → parse_initials source names size at ≡ got [] at
   unfolding parse_initials
   initials_none k = rw (← e, ne_eqb _ _ k)
 
-  pub initials_on : t.kind ≡ Kinds.left_parenthesis → parse_initials source names size at
+  pub initials_on : kind_number t.kind ≡ Kinds.left_parenthesis → parse_initials source names size at
       ≡ and_then (separated source Kinds.comma (parse_initial source names size []) (parse_initial source names size) t.next) (λ values n. and_then (expect Kinds.right_parenthesis source n) (λ _ next. got values next))
   unfolding parse_initials
   initials_on k = rw (← e, eq-eqb _ _ k)

@@ -9,12 +9,13 @@ use borrow.Author.Tests.{eq-eqb, ne_eqb, eqb-true, eqb-false, leb-true, leb-fals
 use lib.Dec.{eqb, leb}
 use lib.ListN.{length}
 use Rattle.prelude.specs.Choice.{whether, find}
+use Rattle.source.specs.Kinds.{kind_number}
 use Rattle.source.specs.Kinds
 use Rattle.source.specs.declared.Token.{Token}
 use Rattle.source.specs.Tokens.{token_at}
 use Rattle.tree.specs.Tree.{Name, Item, Stmts, Declaration, Program}
 use Rattle.tree.specs.Symbols.{declare_item, local_scope}
-use Rattle.layout.specs.Allocation.{Allocation, with_scope, start, allocate, allocated}
+use Rattle.layout.specs.Allocation.{Allocation, start, allocate, allocated}
 use Rattle.grammar.specs.Vocabulary.{as_one_of}
 use Rattle.layout.specs.Limits.{name_limit, space_limit, declaration_limit, main_limit}
 use Rattle.grammar.specs.Parse.{Got, and_then, fail_at, within, is, expect, snoc, repeat}
@@ -189,10 +190,10 @@ pub declarations_first : (source : List ℕ) (checked : Bool) (at : ℕ) {held :
 unfolding parse_declarations repeat
 declarations_first source checked at h = record { done = []; holds = h; same = refl }
 
-token_none : (source : List ℕ) (checked : Bool) (ds : List Declaration) (t : Token) → begins t.kind ≡ false → as_one_of (declaration_keywords source checked) t (λ parse. some (parse ds t)) (λ _. none) ≡ none
+token_none : (source : List ℕ) (checked : Bool) (ds : List Declaration) (t : Token) → begins (kind_number t.kind) ≡ false → as_one_of (declaration_keywords source checked) t (λ parse. some (parse ds t)) (λ _. none) ≡ none
 unfolding find
 token_none source checked ds t h =
-    let o = outside t.kind in
+    let o = outside (kind_number t.kind) in
     rw (
       ne_eqb _ 24 (o 24 h (omega arith) (omega arith)),
       ne_eqb _ 25 (o 25 h (omega arith) (omega arith)),
@@ -207,50 +208,50 @@ module _ (source : List ℕ) (checked : Bool) (ds : List Declaration) (t : Token
   abbrev Some : Type 0
   Some = as_one_of (declaration_keywords source checked) t (λ parse. some (parse ds t)) (λ _. none) ≡ some (mapped (λ new. ds ++ new) (declaration_in source checked (allocated ds) t))
 
-  some_integer : t.kind ≡ 24 → Some
+  some_integer : kind_number t.kind ≡ 24 → Some
   unfolding find declaration_in
   some_integer e = rw e (ap some (global_list source ds ItemKeyword.integer t.next))
 
-  some_constant : t.kind ≡ 25 → Some
+  some_constant : kind_number t.kind ≡ 25 → Some
   unfolding find declaration_in
   some_constant e = rw e (ap some (global_list source ds ItemKeyword.constant t.next))
 
-  some_compconstant : t.kind ≡ 26 → Some
+  some_compconstant : kind_number t.kind ≡ 26 → Some
   unfolding find declaration_in
   some_compconstant e = rw e (ap some (global_list source ds ItemKeyword.compconstant t.next))
 
-  some_array : t.kind ≡ 27 → Some
+  some_array : kind_number t.kind ≡ 27 → Some
   unfolding find declaration_in
   some_array e = rw e (ap some (array_list source ds checked t.next))
 
-  some_sector : t.kind ≡ 28 → Some
+  some_sector : kind_number t.kind ≡ 28 → Some
   unfolding find declaration_in
   some_sector e =
       rw (
-        ne_eqb t.kind 24 (λ q. omega arith),
-        ne_eqb t.kind 25 (λ q. omega arith),
-        ne_eqb t.kind 26 (λ q. omega arith),
-        ne_eqb t.kind 27 (λ q. omega arith),
-        eq-eqb t.kind 28 e,
+        ne_eqb (kind_number t.kind) 24 (λ q. omega arith),
+        ne_eqb (kind_number t.kind) 25 (λ q. omega arith),
+        ne_eqb (kind_number t.kind) 26 (λ q. omega arith),
+        ne_eqb (kind_number t.kind) 27 (λ q. omega arith),
+        eq-eqb (kind_number t.kind) 28 e,
       )
       (ap some (limited_def source ds Declaration.next_sector t))
 
-  some_procedure : t.kind ≡ 29 → Some
+  some_procedure : kind_number t.kind ≡ 29 → Some
   unfolding find declaration_in
   some_procedure e = rw e (ap some (procedure_def source ds false t.next))
 
-  some_accumulator : t.kind ≡ 30 → Some
+  some_accumulator : kind_number t.kind ≡ 30 → Some
   unfolding find declaration_in
   some_accumulator e = rw e (ap some (accumulator_def source ds t.next))
 
-  token_some : begins t.kind ≡ true → Some
-  token_some h = seven t.kind h some_integer some_constant some_compconstant some_array some_sector some_procedure some_accumulator
+  token_some : begins (kind_number t.kind) ≡ true → Some
+  token_some h = seven (kind_number t.kind) h some_integer some_constant some_compconstant some_array some_sector some_procedure some_accumulator
 
 module _ (source : List ℕ) (checked : Bool) (ds : List Declaration) (at : ℕ) {t : Token} (e : t ≡ token_at source at) where
-  pub declaration_none : begins t.kind ≡ false → more_declarations source checked ds at ≡ none
+  pub declaration_none : begins (kind_number t.kind) ≡ false → more_declarations source checked ds at ≡ none
   declaration_none h = rw (← e) (token_none source checked ds t h)
 
-  pub declaration_some : begins t.kind ≡ true → more_declarations source checked ds at ≡ some (mapped (λ new. ds ++ new) (declaration_in source checked (allocated ds) t))
+  pub declaration_some : begins (kind_number t.kind) ≡ true → more_declarations source checked ds at ≡ some (mapped (λ new. ds ++ new) (declaration_in source checked (allocated ds) t))
   declaration_some h = rw (← e) (token_some source checked ds t h)
 
 -- with the allocation that the code has
@@ -267,37 +268,37 @@ keyword_none n m l = rw (ne_eqb _ _ n, ne_eqb _ _ m, ne_eqb _ _ l)
 -- ---- The forms, by the token
 
 module _ (source : List ℕ) (checked : Bool) (st : Allocation) (t : Token) where
-  pub in_array : t.kind ≡ Kinds.ARRAY → declaration_in source checked st t ≡ arrays_in source checked st t.next
+  pub in_array : kind_number t.kind ≡ Kinds.ARRAY → declaration_in source checked st t ≡ arrays_in source checked st t.next
   unfolding declaration_in
   in_array e = rw e
 
-  pub in_sector : t.kind ≡ Kinds.NEXTSECTOR → declaration_in source checked st t ≡ limited_in source st Declaration.next_sector t
+  pub in_sector : kind_number t.kind ≡ Kinds.NEXTSECTOR → declaration_in source checked st t ≡ limited_in source st Declaration.next_sector t
   unfolding declaration_in
   in_sector e = rw e
 
-  pub in_procedure_lem : t.kind ≡ Kinds.PROCEDURE → declaration_in source checked st t ≡ procedure_in source st false t.next
+  pub in_procedure_lem : kind_number t.kind ≡ Kinds.PROCEDURE → declaration_in source checked st t ≡ procedure_in source st false t.next
   unfolding declaration_in
   in_procedure_lem e = rw e
 
-  pub in_items : (word : ItemKeyword) → some word ≡ keyword_of t.kind → declaration_in source checked st t ≡ items_in source word st t.next
+  pub in_items : (word : ItemKeyword) → some word ≡ keyword_of (kind_number t.kind) → declaration_in source checked st t ≡ items_in source word st t.next
   unfolding declaration_in keyword_of find
-  in_items word h = go (eqb t.kind 24) (eqb t.kind 25) (eqb t.kind 26) refl refl refl
+  in_items word h = go (eqb (kind_number t.kind) 24) (eqb (kind_number t.kind) 25) (eqb (kind_number t.kind) 26) refl refl refl
     where
-      known : (k : ℕ) (w : ItemKeyword) → t.kind ≡ k → some w ≡ keyword_of k → word ≡ w
+      known : (k : ℕ) (w : ItemKeyword) → kind_number t.kind ≡ k → some w ≡ keyword_of k → word ≡ w
       known k w e i = let q : some word ≡ some w = h ∙ ap keyword_of e ∙ sym i in cc
 
-      go : (a b d : Bool) → eqb t.kind 24 ≡ a → eqb t.kind 25 ≡ b → eqb t.kind 26 ≡ d → declaration_in source checked st t ≡ items_in source word st t.next
-      go true b d p q r = let e = eqb-true t.kind 24 p in rw (e, known 24 ItemKeyword.integer e refl)
-      go false true d p q r = let e = eqb-true t.kind 25 q in rw (e, known 25 ItemKeyword.constant e refl)
-      go false false true p q r = let e = eqb-true t.kind 26 r in rw (e, known 26 ItemKeyword.compconstant e refl)
-      go false false false p q r = absurd (let w : keyword_of t.kind ≡ none = sym (keyword_none {kind = t.kind} (eqb-false t.kind 24 p) (eqb-false t.kind 25 q) (eqb-false t.kind 26 r)) in let i = h ∙ w in let z : ◌≡◌ {A = ℕ} 0 1 = cc in omega arith)
+      go : (a b d : Bool) → eqb (kind_number t.kind) 24 ≡ a → eqb (kind_number t.kind) 25 ≡ b → eqb (kind_number t.kind) 26 ≡ d → declaration_in source checked st t ≡ items_in source word st t.next
+      go true b d p q r = let e = eqb-true (kind_number t.kind) 24 p in rw (e, known 24 ItemKeyword.integer e refl)
+      go false true d p q r = let e = eqb-true (kind_number t.kind) 25 q in rw (e, known 25 ItemKeyword.constant e refl)
+      go false false true p q r = let e = eqb-true (kind_number t.kind) 26 r in rw (e, known 26 ItemKeyword.compconstant e refl)
+      go false false false p q r = absurd (let w : keyword_of (kind_number t.kind) ≡ none = sym (keyword_none {kind = (kind_number t.kind)} (eqb-false (kind_number t.kind) 24 p) (eqb-false (kind_number t.kind) 25 q) (eqb-false (kind_number t.kind) 26 r)) in let i = h ∙ w in let z : ◌≡◌ {A = ℕ} 0 1 = cc in omega arith)
 
-  pub in_accumulator : none ≡ keyword_of t.kind → (t.kind ≡ Kinds.ARRAY → ⊥) → (t.kind ≡ Kinds.NEXTSECTOR → ⊥) → (t.kind ≡ Kinds.PROCEDURE → ⊥) → declaration_in source checked st t ≡ accumulator_in source st t.next
+  pub in_accumulator : none ≡ keyword_of (kind_number t.kind) → (kind_number t.kind ≡ Kinds.ARRAY → ⊥) → (kind_number t.kind ≡ Kinds.NEXTSECTOR → ⊥) → (kind_number t.kind ≡ Kinds.PROCEDURE → ⊥) → declaration_in source checked st t ≡ accumulator_in source st t.next
   unfolding declaration_in keyword_of find
   in_accumulator h a b d =
-      rw (ne_eqb t.kind 24 (no ItemKeyword.integer 24 refl), ne_eqb t.kind 25 (no ItemKeyword.constant 25 refl), ne_eqb t.kind 26 (no ItemKeyword.compconstant 26 refl), ne_eqb t.kind 27 a, ne_eqb t.kind 28 b, ne_eqb t.kind 29 d)
+      rw (ne_eqb (kind_number t.kind) 24 (no ItemKeyword.integer 24 refl), ne_eqb (kind_number t.kind) 25 (no ItemKeyword.constant 25 refl), ne_eqb (kind_number t.kind) 26 (no ItemKeyword.compconstant 26 refl), ne_eqb (kind_number t.kind) 27 a, ne_eqb (kind_number t.kind) 28 b, ne_eqb (kind_number t.kind) 29 d)
     where
-      no : (w : ItemKeyword) (k : ℕ) → some w ≡ keyword_of k → t.kind ≡ k → ⊥
+      no : (w : ItemKeyword) (k : ℕ) → some w ≡ keyword_of k → kind_number t.kind ≡ k → ⊥
       no w k i e = let q : none ≡ some w = h ∙ ap keyword_of e ∙ sym i in let z : ◌≡◌ {A = ℕ} 0 1 = cc in omega arith
 
 -- ---- The main body

@@ -1,12 +1,12 @@
 -- What stands before a procedure's statements.
-use Prim.Native.Nat.{ℕ, suc, ◌+◌, ◌*◌, ◌≤◌, ◌<◌}
+use Prim.Native.Nat.{ℕ, suc, ◌+◌, ◌*◌, ◌≤◌}
 use mathlib.Core.Path.{◌≡◌, refl, sym, ap, ap₂, ◌∙◌}
-use mathlib.Core.List.{List, [], ◌∷◌, foldl}
+use mathlib.Core.List.{List, foldl}
 use native.Mathlib.Numerals.{add-one}
 use native.Mathlib.Omega.{arith}
 use lib.ListN.{length, set}
 use Rattle.tree.specs.Tree.{Name, Item}
-use Rattle.tree.specs.Symbols.{Symbol, Level, Names, Scope, declare, declare_item, local_scope, words_taken}
+use Rattle.tree.specs.Symbols.{Symbol, declare, declare_item, local_scope}
 use Rattle.layout.specs.Allocation as layout
 use Rattle.grammar.specs.Parse.{Got}
 use Rattle.grammar.specs.Declarations.{parse_locals}

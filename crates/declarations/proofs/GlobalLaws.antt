@@ -1,10 +1,10 @@
 -- Global items: a list of items as declarations.
-use Prim.Native.Nat.{ℕ, ◌+◌, ◌≤◌}
+use Prim.Native.Nat.{ℕ, ◌+◌}
 use mathlib.Core.Path.{◌≡◌, refl, sym, ap, ◌∙◌}
 use mathlib.Core.List.{List, [], ◌∷◌, foldl}
 use native.Mathlib.Omega.{arith}
 use lib.ListN.{length}
-use Rattle.tree.specs.Tree.{Name, Item, Declaration}
+use Rattle.tree.specs.Tree.{Name, Item}
 use Rattle.tree.specs.Symbols.{Level, Scope, declare, declare_item}
 use Rattle.layout.specs.Allocation as layout
 use Rattle.layout.specs.Allocation.{with_scope, allocate}

@@ -4,7 +4,7 @@ use mathlib.Core.Path.{◌≡◌, refl, sym, ap, ap₂, ◌∙◌}
 use mathlib.Core.Bool.{Bool, true, false}
 use mathlib.Core.List.{List, [], ◌∷◌, ◌++◌}
 use native.Mathlib.Omega.{arith}
-use borrow.Author.Tests.{le-leb, lt-leb, lt-ltb, le-ltb, eqb-true, eqb-false, leb-true, ltb-true, ltb-false, leb-false}
+use borrow.Author.Tests.{lt-leb, lt-ltb, le-ltb, eqb-true, eqb-false, leb-true, ltb-true, ltb-false, leb-false}
 use lib.Dec.{eqb, leb, ltb}
 use lib.ListN.{length, take, length-append}
 use lib.Seq.{take_all, take-take, take-append-le, length-take-le}
@@ -12,7 +12,7 @@ use Rattle.declarations.specs.declared.Allocation as code
 use Rattle.prelude.specs.Choice.{whether}
 use Rattle.source.specs.declared.Token.{Token}
 use Rattle.grammar.specs.Parse.{Got, and_then, fail_at, within, expect}
-use Rattle.grammar.specs.Parse.Got.{got, failed}
+use Rattle.grammar.specs.Parse.Got.{got}
 use Rattle.layout.specs.Allocation.{Allocation}
 use Rattle.source.specs.Kinds
 use Rattle.tree.specs.Tree.{Declaration, Operand}

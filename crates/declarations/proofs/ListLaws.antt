@@ -7,6 +7,7 @@ use mathlib.Core.Option.{Option, none, some}
 use lib.ListN.{length}
 use lib.Dec.{eqb}
 use Rattle.prelude.specs.Choice.{whether, given, find}
+use Rattle.source.specs.Kinds.{kind_number}
 use Rattle.source.specs.Kinds
 use Rattle.source.specs.declared.Token.{Token}
 use Rattle.source.specs.Tokens.{token_at}
@@ -94,11 +95,11 @@ unfolding parse_locals repeat
 locals_first source scope at h = record { done = []; holds = h; same = refl }
 
 module _ (source : List ℕ) (scope : Scope) (done : List (Name × Item)) (at : ℕ) {t : Token} (e : t ≡ token_at source at) where
-  pub local_none : none ≡ keyword_of t.kind → more_locals source scope done at ≡ none
-  local_none h = as_word (token_at source at).kind _ _ ∙ rw (← e, ← h)
+  pub local_none : none ≡ keyword_of (kind_number t.kind) → more_locals source scope done at ≡ none
+  local_none h = as_word (kind_number (token_at source at).kind) _ _ ∙ rw (← e, ← h)
 
-  pub local_some : {word : ItemKeyword} → some word ≡ keyword_of t.kind → more_locals source scope done at ≡ some (parse_list source (parse_local source scope word) done t.next)
-  local_some h = as_word (token_at source at).kind _ _ ∙ rw (← e, ← h)
+  pub local_some : {word : ItemKeyword} → some word ≡ keyword_of (kind_number t.kind) → more_locals source scope done at ≡ some (parse_list source (parse_local source scope word) done t.next)
+  local_some h = as_word (kind_number (token_at source at).kind) _ _ ∙ rw (← e, ← h)
 
 -- a list after those that are done
 module _ (source : List ℕ) (scope : Scope) (word : ItemKeyword) (done : List (Name × Item)) where

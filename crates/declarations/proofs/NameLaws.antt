@@ -1,12 +1,13 @@
 -- New names: the failure's number, then the part.
-use Prim.Native.Nat.{ℕ, zero, suc, ◌*◌, ◌≤◌, ◌<◌}
+use Prim.Native.Nat.{ℕ, ◌*◌, ◌≤◌, ◌<◌}
 use mathlib.Core.Path.{◌≡◌, refl, sym, ap, ◌∙◌}
 use mathlib.Core.Bool.{Bool, true, false}
 use mathlib.Core.List.{List}
-use borrow.Author.Tests.{eq-eqb, ne_eqb, le-leb, lt-leb, le-ltb, lt-ltb, leb-false}
+use borrow.Author.Tests.{eq-eqb, le-leb, leb-false}
 use lib.Dec.{eqb, leb}
 use lib.ListN.{length}
 use Rattle.prelude.specs.Choice.{whether}
+use Rattle.source.specs.Kinds.{kind_number}
 use Rattle.source.specs.Kinds
 use Rattle.source.specs.declared.Token.{Token}
 use Rattle.source.specs.Tokens.{token_at, name_of}
@@ -14,7 +15,7 @@ use Rattle.tree.specs.Tree.{Name}
 use Rattle.tree.specs.Symbols.{Scope, is_taken}
 use Rattle.grammar.specs.Parse.{Got, and_then, fail_at, within, is}
 use Rattle.grammar.specs.Parse.Got.{got}
-use Rattle.layout.specs.Limits.{word_limit, name_limit}
+use Rattle.layout.specs.Limits.{name_limit}
 use Rattle.grammar.specs.Declarations.{ItemKeyword, new_name, item_limit}
 use Rattle.symbols.specs.declared.Packed.{Packed}
 use Rattle.symbols.specs.Packing.{pack_of, unpack}
@@ -29,6 +30,14 @@ use Rattle.declarations.proofs.ParseLaws.{within_then}
 
 pub held_length : (n : ℕ) (table : List ℕ) → 7 * n ≤ length table → length (live_names n table) ≡ n
 held_length n table h = ap length (held_all n table h) ∙ entries_length n table
+
+-- a name of the source that is not taken fails where as many are alive as may be
+pub too_many :
+    (n level taken : ℕ) (table : List ℕ) (number : ℕ) (t : Token) (name : Name) → 7 * n ≤ length table → kind_number t.kind ≡ Kinds.name
+    → is_taken (record { names = live_names n table; level = level_of level; taken = 0 }) name ≡ false → 512 ≤ n
+    → name_failure (record { names = live_names n table; level = level_of level; taken = taken }) number t name ≡ 10
+unfolding name_failure is_taken
+too_many n level taken table number t name h k u l = rw (eq-eqb (kind_number t.kind) Kinds.name k, u, held_length n table h, le-leb 512 n l)
 
 -- ---- A new name
 
@@ -56,7 +65,7 @@ module _ (source : List ℕ) (scope : Scope) (limit : ℕ) where
       go false b c = refl
 
   -- what is no name fails with 6, whatever its characters
-  is_six : (t : Token) → eqb t.kind Kinds.name ≡ false → (name other : Name) → judged t name ≡ judged t other
+  is_six : (t : Token) → eqb (kind_number t.kind) Kinds.name ≡ false → (name other : Name) → judged t name ≡ judged t other
   unfolding within name_failure
   is_six t k name other = rw k
 
@@ -66,11 +75,11 @@ module _ (source : List ℕ) (scope : Scope) (limit : ℕ) where
   new_is at {t} {p} e q =
       let u = token_at source at in
       new_within u
-      ∙ sym (go (eqb u.kind Kinds.name) refl)
+      ∙ sym (go (eqb (kind_number u.kind) Kinds.name) refl)
       ∙ ap (λ x. judged x (unpack p)) (sym e)
       ∙ sym (within_then (name_failure scope limit t (unpack p)) t (got t t.next) (λ _ n. got (unpack p) n))
     where
-      go : (b : Bool) → eqb (token_at source at).kind Kinds.name ≡ b → judged (token_at source at) (unpack p) ≡ judged (token_at source at) (name_of source (token_at source at))
+      go : (b : Bool) → eqb (kind_number (token_at source at).kind) Kinds.name ≡ b → judged (token_at source at) (unpack p) ≡ judged (token_at source at) (name_of source (token_at source at))
       go true k = ap (judged (token_at source at)) (ap unpack (q ∙ ap (λ x. pack_of (name_of source x)) e) ∙ name_unpacked source at k)
       go false k = is_six (token_at source at) k _ _
 

@@ -1,6 +1,6 @@
 -- Results of parsing: what they came from, and limits.
 use Prim.Native.Nat.{ℕ}
-use mathlib.Core.Path.{◌≡◌, refl, ap, ◌∙◌}
+use mathlib.Core.Path.{◌≡◌, refl}
 use mathlib.Core.Bool.{Bool, true, false}
 use borrow.Author.Tests.{eq-eqb, ne_eqb}
 use lib.Dec.{eqb}
@@ -8,15 +8,7 @@ use Rattle.prelude.specs.Choice.{whether}
 use Rattle.source.specs.declared.Token.{Token}
 use Rattle.grammar.specs.Parse.{Got, and_then, fail_at, within}
 use Rattle.grammar.specs.Parse.Got.{got, failed}
-use mathlib.Core.List.{List}
-use Rattle.grammar.specs.Parse.{more_separated}
-use Rattle.std.specs.Prelude.{Result}
-use Rattle.parser.specs.declared.Part.{Part}
-use Rattle.parser.specs.declared.Failure.{Failure}
-use Rattle.parser.specs.Reads.{Reads}
-use Rattle.parser.specs.Reads.Reads.{read, fails}
-use Rattle.parser.proofs.Answers.{then_got, then_failed}
-use Rattle.parser.proofs.ReadLaws.{never, repeat_zero, Sequel}
+use Rattle.parser.proofs.ReadLaws.{never}
 
 pub then_inv : {A B : Type 0} (g : Got A) (f : A → ℕ → Got B) {t : B} {n : ℕ} → and_then g f ≡ got t n → (x : A) × (k : ℕ) × (g ≡ got x k) × (f x k ≡ got t n)
 unfolding and_then

@@ -1,11 +1,10 @@
 -- Procedures: the body, and the whole.
 use Prim.Native.Nat.{ℕ, suc, ◌+◌, ◌*◌, ◌≤◌, ◌<◌}
-use mathlib.Core.Path.{◌≡◌, refl, sym, ap, ap₂, ◌∙◌}
+use mathlib.Core.Path.{◌≡◌, refl, sym, ap, ◌∙◌}
 use mathlib.Core.Bool.{Bool, true}
 use mathlib.Core.List.{List, [], ◌∷◌, foldl}
-use native.Mathlib.Numerals.{add-one}
 use native.Mathlib.Omega.{arith}
-use lib.ListN.{length, set}
+use lib.ListN.{length}
 use Rattle.source.specs.Kinds
 use Rattle.source.specs.declared.Token.{Token}
 use Rattle.source.specs.Tokens.{token_at}
@@ -14,10 +13,10 @@ use Rattle.tree.specs.Symbols.{Symbol, Level, Names, Scope, declare, declare_ite
 use Rattle.layout.specs.Words.{Sym, stmts_words, procedure_words}
 use Rattle.layout.specs.Allocation as layout
 use Rattle.layout.specs.Limits.{name_limit, declaration_limit}
-use Rattle.grammar.specs.Parse.{Got, and_then, fail_at, within, expect}
+use Rattle.grammar.specs.Parse.{Got, and_then, within, expect}
 use Rattle.grammar.specs.Parse.Got.{got, failed}
 use Rattle.grammar.specs.Statements.{parse_outermost}
-use Rattle.grammar.specs.Declarations.{new_name, parse_locals}
+use Rattle.grammar.specs.Declarations.{parse_locals}
 use Rattle.symbols.specs.declared.Packed.{Packed}
 use Rattle.symbols.specs.Packing.{unpack}
 use Rattle.symbols.specs.Table as tables

@@ -1,16 +1,12 @@
 -- The main body and the whole program.
 use Prim.Native.Nat.{ℕ, ◌+◌, ◌≤◌}
 use mathlib.Core.Path.{◌≡◌, refl, sym, ap, ap₂, ◌∙◌}
-use mathlib.Core.Bool.{Bool, true, false}
+use mathlib.Core.Bool.{Bool}
 use mathlib.Core.List.{List, [], ◌∷◌, foldl}
 use native.Mathlib.Omega.{arith}
-use borrow.Author.Tests.{eq-eqb, ne_eqb}
 use lib.ListN.{length, get_or}
 use Rattle.source.specs.Kinds
-use Rattle.source.specs.declared.Token.{Token}
-use Rattle.source.specs.Tokens.{token_at}
-use Rattle.tree.specs.Tree.{Name, Item, Stmts, Declaration}
-use Rattle.tree.specs.Symbols.{Level, Scope, declare, declare_item}
+use Rattle.tree.specs.Tree.{Stmts, Declaration}
 use Rattle.layout.specs.Words.{Sym, stmts_words, main_words, ◌⧺◌}
 use Rattle.layout.specs.Pool.{literals_of, added_all}
 use Rattle.layout.specs.Allocation as layout
@@ -33,7 +29,7 @@ use Rattle.emitter.proofs.Lays.{word, sequence}
 use Rattle.emitter.proofs.EmittedWords.{generic_word}
 use Rattle.declarations.specs.declared.SectorEnds.{SectorEnds}
 use Rattle.declarations.specs.declared.Allocation.{Allocation}
-use Rattle.declarations.specs.Allocations.{ends_of, end_of, pool_of, global_scope, allocation_of, SoundAllocation, Declared, DeclaredAnyPlan, sector_number}
+use Rattle.declarations.specs.Allocations.{ends_of, end_of, pool_of, allocation_of, SoundAllocation, Declared, sector_number}
 use Rattle.declarations.specs.Clauses.{after_token, end_then_expect}
 use Rattle.declarations.specs.Procedures.{bases_at, main_in, MainEmitted, program_in, ProgramEmitted}
 use Rattle.parser.proofs.Answers.{then_got, then_failed}

@@ -7,13 +7,10 @@ use lib.ListN.{length-replicate, length, set, take, length-append}
 use lib.Seq.{take-take}
 use Rattle.tree.specs.Tree.{Name, Item}
 use Rattle.tree.specs.Symbols.{Symbol, Scope, words_taken, item_symbol, declare, declare_item, item_value}
-use Rattle.source.specs.Kinds
-use Rattle.source.specs.declared.Token.{Token}
 use Rattle.source.specs.Tokens.{token_at}
-use Rattle.grammar.specs.Parse.{and_then, expect, snoc}
-use Rattle.grammar.specs.Parse.Got.{got, failed}
-use Rattle.grammar.specs.Cells.{parse_constant}
-use Rattle.grammar.specs.Declarations.{ItemKeyword, new_name, item_limit, parse_value, item_from, parse_item, parse_local}
+use Rattle.grammar.specs.Parse.{and_then, snoc}
+use Rattle.grammar.specs.Parse.Got.{got}
+use Rattle.grammar.specs.Declarations.{ItemKeyword, new_name, item_limit, item_from, parse_item, parse_local}
 use Rattle.symbols.specs.declared.Packed.{Packed}
 use Rattle.symbols.specs.Packing.{unpack}
 use Rattle.symbols.specs.Table.{level_of, entry_of, live_names, Entered}

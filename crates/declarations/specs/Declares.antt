@@ -1,5 +1,5 @@
 -- What each part of a declaration promises: `Reads`, with what is declared.
-use Rattle.std.specs.Prelude.{ℕ, Result}
+use Rattle.std.specs.Prelude.{Result}
 use Rattle.grammar.specs.Parse.{Got}
 use Rattle.parser.specs.declared.Part.{Part}
 use Rattle.parser.specs.declared.Failure.{Failure}

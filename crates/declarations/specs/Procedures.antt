@@ -1,20 +1,19 @@
 -- Procedures, the main body and the program: what is emitted.
-use Rattle.std.specs.Prelude.{ℕ, suc, ◌+◌, ◌*◌, ◌≡◌, Bool, eqb, leb, length, set, take}
-use mathlib.Core.List.{List, [], ◌∷◌, foldl}
-use Rattle.std.proofs.Math.Option.{Option, none, some}
-use Rattle.prelude.specs.Choice.{whether, find, given}
+use Rattle.std.specs.Prelude.{ℕ, ◌*◌, ◌≡◌, Bool, leb, length, take, Result}
+use mathlib.Core.List.{List, [], ◌∷◌}
+use Rattle.prelude.specs.Choice.{whether}
 use Rattle.source.specs.Kinds
 use Rattle.tree.specs.Tree.{Name, Item, Stmts, Program}
-use Rattle.tree.specs.Symbols.{declare_item, local_scope}
 use Rattle.layout.specs.Words.{Sym, stmts_words, ◌⧺◌}
 use Rattle.layout.specs.Allocation as layout
 use Rattle.layout.specs.Limits.{main_limit}
 use Rattle.grammar.specs.Parse.{Got, and_then, within, expect}
 use Rattle.grammar.specs.Parse.Got.{got, failed}
 use Rattle.grammar.specs.Statements.{parse_outermost}
+use Rattle.parser.specs.declared.Part.{Part}
+use Rattle.parser.specs.declared.Failure.{Failure}
 use Rattle.grammar.specs.Declarations as declarations
 use Rattle.grammar.specs.Program as programs
-use Rattle.symbols.specs.Table.{live_names}
 use Rattle.emitter.specs.Emitted as emitted
 use Rattle.layout.specs.Emission as emission
 use Rattle.emitter.specs.Lays.{Lays}
@@ -22,13 +21,11 @@ use Rattle.layout.specs.Emission.{stored, local_values, emit_main, emit_program}
 use Rattle.emitter.specs.declared.Output.{Output}
 use Rattle.declarations.specs.declared.SectorEnds.{SectorEnds}
 use Rattle.declarations.specs.declared.Allocation.{Allocation}
-use Rattle.declarations.specs.Clauses.{Answer}
 use Rattle.declarations.specs.declared.Reading.{Reading}
 use Rattle.declarations.specs.Declares.{Declares}
 use Rattle.declarations.specs.Frames.{framed}
 use Rattle.declarations.specs.Scopes.{table_words}
 use Rattle.declarations.specs.Allocations.{end_of, allocation_of, SoundAllocation}
-use Rattle.layout.specs.Addresses.{first_global}
 
 -- where the words of a body find what they name
 abbrev pub bases_at : ℕ → Allocation → emission.Bases
@@ -83,6 +80,6 @@ pub record Lengths (table image table' image' : List ℕ) : Type 0 where
   pub table_kept : length table' ≡ length table
   pub image_kept : length image' ≡ length image
 
-abbrev pub Programs : SectorEnds → List ℕ → List ℕ → List ℕ → Answer Reading → List ℕ → List ℕ → Type 0
+abbrev pub Programs : SectorEnds → List ℕ → List ℕ → List ℕ → Result (Part Reading) Failure → List ℕ → List ℕ → Type 0
 Programs plan source table image r table' image' =
     Declares (λ p x. ProgramEmitted plan image x.checked x.allocation x.end table' image' p) r (program_on source table) × Lengths table image table' image'

@@ -19,7 +19,7 @@ use crate::values::initials;
 use cells::{Reader, size_of};
 use layout::addresses::ARRAY_TAG;
 use parser::{Part, Read, expect};
-use source::kind::{COMMA, LEFT_BRACKET, RIGHT_BRACKET, SEMICOLON};
+use source::kind::Kind;
 use source::{Token, token_at};
 use symbols::{Array, Names, Packed, Symbol};
 
@@ -35,7 +35,7 @@ pub(crate) struct Head {
 fn bracketed(reader: &Reader<'_>, at: usize) -> Read<u16>
     ensures { Gives (λ v. v) result (after_token reader.now.source.now kinds.left_bracket (size_at reader.now.source.now (live reader.now)) at) }
 {
-    let open = expect(reader.source, LEFT_BRACKET, at);
+    let open = expect(reader.source, Kind::LeftBracket, at);
     let Ok(Part { value: _, next }) = open else {
         return Err(open.unwrap_err());
     };
@@ -48,7 +48,7 @@ impl Allocation {
     fn closing(self, source: &[u8], size: u16, at: usize) -> Read<Token>
         ensures { Gives (λ t. t) result (closing_at source.now (space_number (pool_end self.output + size) self.array) at) }
     {
-        let close = expect(source, RIGHT_BRACKET, at);
+        let close = expect(source, Kind::RightBracket, at);
         let Ok(Part { value: t, next: _ }) = close else {
             return close;
         };
@@ -170,7 +170,7 @@ impl Allocation {
                 return one;
             };
             let t = token_at(source, next);
-            if t.kind != COMMA {
+            if t.kind != Kind::Comma {
                 return one;
             }
             allocation = after;
@@ -202,7 +202,7 @@ impl Allocation {
         else {
             return list;
         };
-        let end = expect(source, SEMICOLON, next);
+        let end = expect(source, Kind::Semicolon, next);
         let Ok(Part { value: _, next }) = end else {
             return Err(end.unwrap_err());
         };

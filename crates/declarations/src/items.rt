@@ -16,7 +16,7 @@ use crate::{Item, ItemKeyword, Scope};
 use cells::Reader;
 use emitter::store;
 use parser::{Cause, Part, Read, expect};
-use source::kind::EQUAL;
+use source::kind::Kind;
 use symbols::{Names, Packed, Symbol, id_of};
 
 // `=` and a constant.
@@ -24,7 +24,7 @@ use symbols::{Names, Packed, Symbol, id_of};
 fn value_at(reader: &Reader<'_>, at: usize) -> Read<u16>
     ensures { Gives (λ v. v) result (after_token reader.now.source.now kinds.equal (parse_constant reader.now.source.now (live reader.now)) at) }
 {
-    let equal = expect(reader.source, EQUAL, at);
+    let equal = expect(reader.source, Kind::Equal, at);
     let Ok(Part { value: _, next }) = equal else {
         return Err(equal.unwrap_err());
     };

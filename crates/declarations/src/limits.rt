@@ -1,4 +1,5 @@
 // Failures 12 and 13, and where they are judged (J8).
+ghost use Rattle.source.specs.Kinds.{kind_number};
 ghost use Rattle.std.specs.Prelude.{◌≡◌, ◌+◌, ◌≤◌, ℕ};
 ghost use Rattle.parser.specs.Reads.{Gives};
 ghost use Rattle.declarations.specs.Scopes.{Limits};
@@ -10,7 +11,7 @@ use emitter::Output;
 use layout::addresses;
 use parser::{Cause, Part, Read, expect};
 use source::Token;
-use source::kind::END;
+use source::kind::Kind;
 
 const SECTOR_WORDS: usize = addresses::SECTOR_WORDS as usize;
 
@@ -45,9 +46,9 @@ pub(crate) fn limit_then_expect(
     source: &[u8],
     last: Token,
     limit: Result<(), Cause>,
-    kind: u16,
+    kind: Kind,
 ) -> Read<Token>
-    ensures { (number : ℕ) → Limits limit number → Gives (λ t. t) result (limit_then_expect source.now number last kind) }
+    ensures { (number : ℕ) → Limits limit number → Gives (λ t. t) result (limit_then_expect source.now number last (kind_number kind)) }
 {
     let passed = pass_at(last, limit);
     let Ok(Part { value: _, next }) = passed else {
@@ -63,13 +64,13 @@ pub(crate) fn end_then_expect(
     output: Output,
     closed: usize,
     array: u16,
-    kind: u16,
+    kind: Kind,
     at: usize,
 ) -> Read<Token>
     requires { closed ≤ 30 }
-    ensures { Gives (λ t. t) result (end_then_expect source.now (sector_number (pool_end output) closed array) kind at) }
+    ensures { Gives (λ t. t) result (end_then_expect source.now (sector_number (pool_end output) closed array) (kind_number kind) at) }
 {
-    let end = expect(source, END, at);
+    let end = expect(source, Kind::End, at);
     let Ok(
         Part {
             value: last,

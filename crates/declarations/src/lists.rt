@@ -1,5 +1,6 @@
 // Lists of integers, constants and compconstants, at both levels.
 // Each list loop is written out: as a function of a closure, the closure would have to carry the loans of table and image.
+ghost use Rattle.source.specs.Kinds.{kind_number};
 ghost use Rattle.std.specs.Prelude.{◌≡◌, []};
 ghost use Rattle.grammar.specs.Declarations.{parse_local, parse_list, parse_locals};
 ghost use Rattle.declarations.specs.Scopes.{scope_of, tree_keyword, keyword_of, tree_found, Room};
@@ -7,19 +8,19 @@ ghost use Rattle.declarations.specs.Clauses.{DeclaresItems, item_list_at};
 
 use crate::{ItemKeyword, Scope};
 use parser::{Part, Read, expect};
-use source::kind::{COMMA, COMPCONSTANT, CONSTANT, INTEGER, SEMICOLON};
+use source::kind::Kind;
 use source::token_at;
 
 impl ItemKeyword {
     /// The item keyword that a token of a kind is.
     #[tactic(auto, unfolding(crate::specs::Scopes::keyword_of, crate::specs::Scopes::tree_found, crate::specs::Scopes::tree_keyword, prelude::specs::Choice::find))]
-    pub(crate) fn of_kind(kind: u16) -> Option<ItemKeyword>
-        ensures { tree_found result ≡ keyword_of kind }
+    pub(crate) fn of_kind(kind: Kind) -> Option<ItemKeyword>
+        ensures { tree_found result ≡ keyword_of (kind_number kind) }
     {
         match kind {
-            INTEGER => Some(ItemKeyword::Integer),
-            CONSTANT => Some(ItemKeyword::Constant),
-            COMPCONSTANT => Some(ItemKeyword::Compconstant),
+            Kind::Integer => Some(ItemKeyword::Integer),
+            Kind::Constant => Some(ItemKeyword::Constant),
+            Kind::Compconstant => Some(ItemKeyword::Compconstant),
             _ => None,
         }
     }
@@ -47,7 +48,7 @@ impl Scope {
                 return one;
             };
             let t = token_at(source, next);
-            if t.kind != COMMA {
+            if t.kind != Kind::Comma {
                 return one;
             }
             scope = after;
@@ -73,7 +74,7 @@ impl Scope {
         let Ok(Part { value: scope, next }) = list else {
             return list;
         };
-        let end = expect(source, SEMICOLON, next);
+        let end = expect(source, Kind::Semicolon, next);
         let Ok(Part { value: _, next }) = end else {
             return Err(end.unwrap_err());
         };

@@ -12,7 +12,7 @@ ghost use Rattle.declarations.specs.Scopes.{scope_of, name_failure, Limits};
 use crate::Scope;
 use layout::addresses::GLOBAL_WORDS;
 use parser::{Cause, Part, Read, fail_at};
-use source::kind::NAME;
+use source::kind::Kind;
 use source::{Token, token_at};
 use symbols::{Names, Packed, pack};
 
@@ -46,7 +46,7 @@ impl Scope {
         requires { 7 * self.names ≤ length table.now }
         ensures { (number : ℕ) → Limits limit number → Limits result (name_failure (scope_of self table.now) number t (unpack name)) }
     {
-        if t.kind != NAME {
+        if t.kind != Kind::Name {
             return Err(Cause::NotAllowed);
         }
         let names = Names {

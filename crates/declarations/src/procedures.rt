@@ -7,11 +7,11 @@ ghost use Rattle.declarations.specs.Forms.{heading_in, body_in, procedure_in, ac
 ghost use Rattle.declarations.specs.Clauses.{EmitsBody};
 
 use crate::bodies::statements_under;
-use emitter::{Context, Output, emit_return};
-use parser::{Part, Read, expect};
-use source::kind::{BEGIN, PROCEDURE, SEMICOLON};
 use crate::limits::end_then_expect;
 use crate::{Allocation, SectorEnds};
+use emitter::{Context, Output, emit_return};
+use parser::{Part, Read, expect};
+use source::kind::Kind;
 use symbols::{Packed, Symbol};
 
 // A procedure up to its `.BEGIN`.
@@ -24,11 +24,11 @@ fn heading(source: &[u8], table: &[u16], allocation: Allocation, at: usize) -> R
     let Ok(Part { value: name, next }) = named else {
         return named;
     };
-    let semicolon = expect(source, SEMICOLON, next);
+    let semicolon = expect(source, Kind::Semicolon, next);
     let Ok(Part { value: _, next }) = semicolon else {
         return Err(semicolon.unwrap_err());
     };
-    let begin = expect(source, BEGIN, next);
+    let begin = expect(source, Kind::Begin, next);
     let Ok(Part { value: _, next }) = begin else {
         return Err(begin.unwrap_err());
     };
@@ -106,7 +106,7 @@ pub(crate) fn procedure(
     };
     let closed = allocation.sectors.count;
     let array = allocation.array;
-    let ended = end_then_expect(source, output, closed, array, SEMICOLON, next);
+    let ended = end_then_expect(source, output, closed, array, Kind::Semicolon, next);
     let Ok(Part { value: _, next }) = ended else {
         return Err(ended.unwrap_err());
     };
@@ -133,7 +133,7 @@ pub(crate) fn accumulator(
     ensures { Allocates allocation table.old image.old plan result table.new image.new
         (accumulator_in source.now (allocation_of allocation table.old) at) }
 {
-    let word = expect(source, PROCEDURE, at);
+    let word = expect(source, Kind::Procedure, at);
     let Ok(Part { value: _, next }) = word else {
         return Err(word.unwrap_err());
     };

@@ -1,4 +1,5 @@
 // Declarations and the main body: a program.
+ghost use Rattle.source.specs.Kinds.{kind_number};
 ghost use Rattle.std.specs.Prelude.{◌≡◌, ◌≤◌, length};
 ghost use Rattle.source.specs.Kinds as kinds;
 ghost use Rattle.grammar.specs.Declarations.{parse_checked, parse_declarations};
@@ -10,29 +11,26 @@ ghost use Rattle.declarations.specs.Forms as forms;
 ghost use Rattle.declarations.specs.Procedures.{main_in, AtStart, program_in, Programs};
 ghost use Rattle.declarations.specs.Clauses.{EmitsMain, CompilesProgram};
 
-use crate::Reading;
 use crate::bodies::statements_under;
+use crate::limits::end_then_expect;
 use crate::procedures::{accumulator, procedure};
+use crate::sectors::store_pool;
+use crate::{Allocation, ItemKeyword, Reading, SectorEnds};
 use emitter::{Context, Output, Pool, emit_generic};
 use instruction::slot::HLT;
 use layout::addresses::{FIRST_ARRAY, FIRST_CODE};
 use parser::{Cause, Failure, Part, Read, expect};
-use source::kind::{
-    ACCUMULATOR, ARRAY, BEGIN, CHECKED, END_OF_SOURCE, INTEGER, NEXTSECTOR, PROCEDURE, SEMICOLON,
-};
+use source::kind::Kind;
 use source::{Token, token_at};
-use crate::limits::end_then_expect;
-use crate::sectors::store_pool;
-use crate::{Allocation, ItemKeyword, SectorEnds};
 
 /// The words of a table of 512 names.
 pub const TABLE_WORDS: usize = 3584;
 
 // Whether a declaration begins with a token of a kind.
-fn begins(kind: u16) -> bool
-    ensures { result ≡ forms.begins kind }
+fn begins(kind: Kind) -> bool
+    ensures { result ≡ forms.begins (kind_number kind) }
 {
-    INTEGER <= kind && kind <= ACCUMULATOR
+    kind.is_between(Kind::Integer, Kind::Accumulator)
 }
 
 // The declaration that a token begins.
@@ -53,9 +51,9 @@ fn declaration(
         return allocation.global_items(source, table, image, keyword, t.next);
     }
     match t.kind {
-        ARRAY => allocation.arrays(source, table, image, checked, t.next),
-        NEXTSECTOR => allocation.next_sector(source, image, t),
-        PROCEDURE => procedure(source, table, image, plan, allocation, false, t.next),
+        Kind::Array => allocation.arrays(source, table, image, checked, t.next),
+        Kind::Nextsector => allocation.next_sector(source, image, t),
+        Kind::Procedure => procedure(source, table, image, plan, allocation, false, t.next),
         _ => accumulator(source, table, image, plan, allocation, t.next),
     }
 }
@@ -119,7 +117,7 @@ fn main_body(
     };
     let last = emit_generic(image, after, HLT);
     let array = allocation.array;
-    let ended = end_then_expect(source, last, sectors.count, array, END_OF_SOURCE, next);
+    let ended = end_then_expect(source, last, sectors.count, array, Kind::EndOfSource, next);
     let Ok(Part { value: _, next }) = ended else {
         return Err(ended.unwrap_err());
     };
@@ -153,13 +151,13 @@ fn checked_at(source: &[u8], at: usize) -> Read<bool>
     ensures { Gives (λ b. b) result (parse_checked source.now at) }
 {
     let t = token_at(source, at);
-    if t.kind != CHECKED {
+    if t.kind != Kind::Checked {
         return Ok(Part {
             value: false,
             next: at,
         });
     }
-    let end = expect(source, SEMICOLON, t.next);
+    let end = expect(source, Kind::Semicolon, t.next);
     let Ok(Part { value: _, next }) = end else {
         return Err(end.unwrap_err());
     };
@@ -171,7 +169,7 @@ fn checked_at(source: &[u8], at: usize) -> Read<bool>
 fn opening(source: &[u8]) -> Read<bool>
     ensures { Gives (λ b. b) result (after_token source.now kinds.BEGIN (parse_checked source.now) 0) }
 {
-    let begin = expect(source, BEGIN, 0);
+    let begin = expect(source, Kind::Begin, 0);
     let Ok(Part { value: _, next }) = begin else {
         return Err(begin.unwrap_err());
     };

@@ -15,7 +15,7 @@ use emitter::{Output, Pool, store};
 use layout::addresses::{CLOSED_SECTORS, SECTOR_WORDS};
 use parser::{Cause, Part, Read};
 use source::Token;
-use source::kind::SEMICOLON;
+use source::kind::Kind;
 
 /// A pool's words from an address on.
 #[tactic(auto, using(crate::proofs::AllocationLaws::for_store_pool, emitter::proofs::EmittedPools::counted), unfolding(layout::specs::Emission::stored))]
@@ -77,7 +77,7 @@ impl Allocation {
         ensures { ClosesSector self image.old result image.new
             (limited_in source.now (allocation_of self []) Declaration.next_sector t) }
     {
-        let ended = limit_then_expect(source, t, self.next_limit(), SEMICOLON);
+        let ended = limit_then_expect(source, t, self.next_limit(), Kind::Semicolon);
         let Ok(Part { value: _, next }) = ended else {
             return Err(ended.unwrap_err());
         };

@@ -11,7 +11,7 @@ ghost use Rattle.declarations.specs.Clauses.{value_list_at};
 use cells::Reader;
 use emitter::store;
 use parser::{Cause, Part, Read, expect, fail_at};
-use source::kind::{COMMA, LEFT_PARENTHESIS, RIGHT_PARENTHESIS};
+use source::kind::Kind;
 use source::token_at;
 
 // Zeros from an address on.
@@ -78,7 +78,7 @@ fn values(reader: &Reader<'_>, image: &mut [u16], first: usize, size: u16, at: u
             return one;
         };
         let t = token_at(reader.source, next);
-        if t.kind != COMMA {
+        if t.kind != Kind::Comma {
             return one;
         }
         count = after;
@@ -100,7 +100,7 @@ pub(crate) fn initials(
         (parse_initials reader.now.source.now (live reader.now) size at) }
 {
     let t = token_at(reader.source, at);
-    if t.kind != LEFT_PARENTHESIS {
+    if t.kind != Kind::LeftParenthesis {
         fill(image, first, size as usize);
         return Ok(Part {
             value: (),
@@ -112,7 +112,7 @@ pub(crate) fn initials(
         return Err(list.unwrap_err());
     };
     fill(image, first + count as usize, (size - count) as usize);
-    let end = expect(reader.source, RIGHT_PARENTHESIS, next);
+    let end = expect(reader.source, Kind::RightParenthesis, next);
     let Ok(Part { value: _, next }) = end else {
         return Err(end.unwrap_err());
     };

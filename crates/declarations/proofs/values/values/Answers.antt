@@ -1,3 +1,5 @@
+use Rattle.source.specs.declared.kind.Kind.TheVariants as Kind
+use Rattle.source.proofs.KindLaws.{not_unequal_kinds, unequal_kinds}
 use mathlib.Core.Path.{◌≡◌, refl, ap, ◌∙◌}
 use Rattle.source.specs.Tokens.{token_at}
 use mathlib.Core.List.{[]}
@@ -15,14 +17,14 @@ pub returns-in_default : goal.returns-in_default
 returns-in_default c = let l = c.loop.invariant in
     rw c.in_default.is (list_failed l.0 (value_next _ _ _ l.0.holds c.stored_value-one.ensures) c.in_default.is (λ w. w))
 
-pub returns-then-t-ne-COMMA : goal.returns-then-t-ne-COMMA
-returns-then-t-ne-COMMA c = let l = c.loop.invariant in
-    rw c.in-Ok.is (list_last l.0 (value_next _ _ _ l.0.holds c.stored_value-one.ensures) c.in-Ok.is (c.token_at-t.ensures ∙ ap (λ p. token_at c.args.reader.now.source.now p.next) c.in-Ok.field-0-is) c.if-t-ne-COMMA.true)
+pub returns-then-ne : goal.returns-then-ne
+returns-then-ne c = let l = c.loop.invariant in
+    rw c.in-Ok.is (list_last l.0 (value_next _ _ _ l.0.holds c.stored_value-one.ensures) c.in-Ok.is (c.token_at-t.ensures ∙ ap (λ p. token_at c.args.reader.now.source.now p.next) c.in-Ok.field-0-is) (unequal_kinds _ Kind.Comma c.ne.ensures c.if-ne.true))
 
 pub loop-preserved : goal.loop-preserved
 loop-preserved c = let l = c.loop.invariant in
     let q : length c.args.reader.now.source.now - c.loop.counter - 1 ≡ length c.args.reader.now.source.now - (c.loop.counter + 1) = omega arith in
-    (rw (c.in-Ok.field-0-is, ← q) (list_next l.0 (value_next _ _ _ l.0.holds c.stored_value-one.ensures) c.in-Ok.is (c.token_at-t.ensures ∙ ap (λ p. token_at c.args.reader.now.source.now p.next) c.in-Ok.field-0-is) (λ z. absurd (let h = c.loop-test.true in omega (arith, h, z))) c.if-t-ne-COMMA.false), c.stored_value-one.auto.image ∙ l.1)
+    (rw (c.in-Ok.field-0-is, ← q) (list_next l.0 (value_next _ _ _ l.0.holds c.stored_value-one.ensures) c.in-Ok.is (c.token_at-t.ensures ∙ ap (λ p. token_at c.args.reader.now.source.now p.next) c.in-Ok.field-0-is) (λ z. absurd (let h = c.loop-test.true in omega (arith, h, z))) (not_unequal_kinds _ Kind.Comma c.ne.ensures c.if-ne.false)), c.stored_value-one.auto.image ∙ l.1)
 
 pub returns : goal.returns
 returns c = let l = c.loop.invariant in
