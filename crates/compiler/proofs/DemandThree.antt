@@ -1,6 +1,6 @@
 -- Demand 3 over calls, from demand 3 over the definitions: what the calls ensure fixes the definitions' results.
 use Prim.Native.Nat.{ℕ}
-use mathlib.Core.Path.{◌≡◌, refl, sym, subst, ◌∙◌}
+use mathlib.Core.Path.{◌≡◌, refl, sym, ap, subst, ◌∙◌}
 use mathlib.Core.Bool.{Bool, true, false}
 use mathlib.Core.List.{List, [], ◌∷◌}
 use native.Mathlib.Omega.{arith}
@@ -18,6 +18,7 @@ use Rattle.semantics.specs.Trace.{State}
 use Rattle.semantics.specs.Agreement.{Agrees, Demand3, Loadable}
 use Rattle.semantics.proofs.Demand.Theorem.{demand3}
 use Rattle.semantics.proofs.Demand.Loading as loading
+use Rattle.compiler.specs.declared.Program.{Program as Counts}
 use Rattle.compiler.specs.Compile.{scratch_words, result_on, answer_of, image_after, Answer, accepted_with}
 use Rattle.compiler.specs.DemandThree.{Calls, delivered, Demand3Called}
 use Rattle.layout.specs.Addresses.{memory_words}
@@ -68,9 +69,10 @@ accepted_as : (x : Result) (image image' : List ℕ) (e w g : ℕ) → answer_of
     → (p : Program) × (x ≡ Result.accepted (delivered p image' e w g))
 unfolding answer_of image_after
 accepted_as (Result.accepted c) image image' e w g a i =
-    let entry : e ≡ c.entry = cc in
-    let words : w ≡ c.words = cc in
-    let globals : g ≡ c.globals = cc in
+    let same : ◌≡◌ {A = Counts} (record { entry = e; words = w; globals = g }) (record { entry = c.entry; words = c.words; globals = c.globals }) = cc in
+    let entry : e ≡ c.entry = ap (λ (x : Counts). x.entry) same in
+    let words : w ≡ c.words = ap (λ (x : Counts). x.words) same in
+    let globals : g ≡ c.globals = ap (λ (x : Counts). x.globals) same in
     (c.program, rw (i, entry, words, globals))
 accepted_as (Result.failed n at) image image' e w g a i = let z : ◌≡◌ {A = ℕ} 0 1 = cc in absurd (omega arith)
 

@@ -6,7 +6,10 @@ use native.Mathlib.Omega.{arith}
 use borrow.Author.Tests.{le-leb}
 use lib.ListN.{length}
 use Rattle.compilation.specs.Compile.{Result}
-use Rattle.compiler.specs.Compile.{scratch_words, result_on, answer_of, image_after, Answer, failed_with}
+use Rattle.parser.specs.declared.Failure.{Failure}
+use Rattle.parser.specs.Failures.{number_of}
+use Rattle.parser.proofs.Answers.{numbered}
+use Rattle.compiler.specs.Compile.{failure_with, scratch_words, result_on, answer_of, image_after, Answer, failed_with}
 use Rattle.compiler.specs.DemandOne.{CompileEnds}
 use Rattle.compiler.specs.ScratchLaws.{ScratchLaws}
 use Rattle.compiler.proofs.ReadingLaws.{compiles, short_scratch}
@@ -18,12 +21,18 @@ one_result : (source image scratch₁ scratch₂ : List ℕ) → scratch_words �
 unfolding result_on
 one_result source image scratch₁ scratch₂ l m = rw (le-leb _ _ l, le-leb _ _ m)
 
+-- a failure's number is in its answer
+same_number : {n m at at' : ℕ} → failed_with n at ≡ failed_with m at' → n ≡ m
+same_number {n} {m} {at} {at'} e =
+    let same : failure_with n at ≡ failure_with m at' = cc in
+    sym (numbered n) ∙ ap (λ (f : Failure). number_of f.cause) same ∙ numbered m
+
 -- how a call that answers 2 has ended
 only_two : {source image scratch image' : List ℕ} {r : Answer} {at : ℕ} → CompileEnds source image scratch r image' → r ≡ failed_with 2 at
     → (length image ≡ memory_words) × (length scratch < scratch_words)
-only_two (CompileEnds.wrong_image l e i) q = let z : ◌≡◌ {A = ℕ} 1 2 = cc in absurd (omega arith)
+only_two (CompileEnds.wrong_image l e i) q = let z = same_number (sym e ∙ q) in absurd (omega (arith, z))
 only_two (CompileEnds.short_scratch l s e i) q = (l, s)
-only_two (CompileEnds.failed l s n at e h i) q = let z : ◌≡◌ {A = ℕ} n 2 = cc in absurd (omega (arith, h.least))
+only_two (CompileEnds.failed l s n at e h i) q = let z = same_number (sym e ∙ q) in absurd (omega (arith, h.least, z))
 only_two (CompileEnds.accepted l s b entry words globals e i) q = let z : ◌≡◌ {A = ℕ} 0 1 = cc in absurd (omega arith)
 
 pub scratch_laws : ScratchLaws

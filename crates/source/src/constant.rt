@@ -7,7 +7,7 @@ use crate::kind::Kind;
 use crate::span::{self, Class};
 use crate::{Token, number};
 
-// A sign ahead of digits: its kind where it stands alone; the digits and their base; the largest number; whether the constant is that number below 0.
+/// A sign ahead of digits: its kind where it stands alone; the digits and their base; the largest number; whether the constant is that number below 0.
 #[derive(Clone, Copy, Debug, PartialEq, Eq)]
 pub struct Sign {
     pub kind: Kind,
@@ -61,7 +61,7 @@ fn constant(n: u32, limit: u32, word: u32, at: usize, width: usize) -> Token
     }
 }
 
-// From its first digit on, which stands at an offset.
+/// From its first digit on, which stands at an offset.
 #[tactic(auto, using(crate::proofs::Constants::for_decimal))]
 pub fn decimal(bytes: &[u8], at: usize) -> Token
     requires { at + length bytes.now < 2 ^ 64 }
@@ -72,7 +72,7 @@ pub fn decimal(bytes: &[u8], at: usize) -> Token
     constant(n, 32767, n, at, width)
 }
 
-// Behind a sign, which stands at an offset.
+/// Behind a sign, which stands at an offset.
 #[tactic(auto, using(crate::proofs::Constants::for_signed))]
 pub fn signed(sign: Sign, bytes: &[u8], at: usize) -> Token
     requires { (0 < sign.base) × (sign.base ≤ 10) × (sign.limit < 65536) × (at + 1 + length bytes.now < 2 ^ 64) }

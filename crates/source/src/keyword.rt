@@ -95,7 +95,7 @@ fn keyword_width(bytes: &[u8]) -> usize
     }
 }
 
-// Behind its point, which stands at an offset.
+/// Behind its point, which stands at an offset.
 #[tactic(auto, unfolding(crate::specs::Tokens::keyword_token))]
 pub fn keyword(bytes: &[u8], at: usize) -> Token
     requires { at + 1 + length bytes.now < 2 ^ 64 }

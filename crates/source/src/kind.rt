@@ -95,7 +95,7 @@ impl Kind {
         self as u16
     }
 
-    // By the numbers, in which words of one sort follow one another.
+    /// By the numbers, in which words of one sort follow one another.
     pub fn is_between(self, low: Kind, high: Kind) -> bool
         ensures { result ≡ between (kind_number low) (kind_number high) (kind_number self) }
     {

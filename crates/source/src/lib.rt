@@ -16,7 +16,7 @@ mod number;
 mod sign;
 mod span;
 
-// Its kind; the 16 bits of a constant in figures; the offsets of its first byte and after its last.
+/// Its kind; the 16 bits of a constant in figures; the offsets of its first byte and after its last.
 #[derive(Clone, Copy, Debug, PartialEq, Eq)]
 pub struct Token {
     pub kind: Kind,
@@ -87,7 +87,7 @@ fn after_blanks(source: &[u8], at: usize) -> usize
     at + span::width(rest(source, at), Class::Blank)
 }
 
-// The token at an offset, after any blanks, where a minus begins a numeral (T11).
+/// The token at an offset, after any blanks, where a minus begins a numeral (T11).
 #[tactic(auto, using(crate::proofs::Choices::for_token_at))]
 pub fn token_at(source: &[u8], at: usize) -> Token
     ensures { result ≡ token_at source.now at }
@@ -96,7 +96,7 @@ pub fn token_at(source: &[u8], at: usize) -> Token
     token_of(rest(source, at), at)
 }
 
-// The token at an offset where an operation may stand: a minus is the operator (T11).
+/// The token at an offset where an operation may stand: a minus is the operator (T11).
 #[tactic(auto, using(crate::proofs::Choices::for_operator_at))]
 pub fn operator_at(source: &[u8], at: usize) -> Token
     ensures { result ≡ operator_at source.now at }

@@ -12,7 +12,7 @@ fn grown(n: u32, base: u32, b: u8) -> u32
     (base * n + u32::from(b.saturating_sub(b'0'))).min(CAP)
 }
 
-// The number that digits are.
+/// The number that digits are.
 #[tactic(auto, using(crate::proofs::Numbers::for_number_of))]
 pub fn number_of(digits: &[u8], base: u32) -> u32
     requires { (0 < base) × (base ≤ 10) }

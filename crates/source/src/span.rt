@@ -26,7 +26,7 @@ impl Class {
     }
 }
 
-// How many of the first bytes are of a class.
+/// How many of the first bytes are of a class.
 pub fn width(bytes: &[u8], class: Class) -> usize
     ensures { (result ≡ span (passes class) bytes.now) × (result ≤ length bytes.now) }
 {

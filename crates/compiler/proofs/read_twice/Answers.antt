@@ -13,5 +13,5 @@ returns-in_default c =
 pub returns : goal.returns
 returns c = let scratch = c.args.scratch.now in
     rw c.counted.ensures (accepted_reading _ c.requires.0 _ scratch (c.program-read.new.table ++ drop table_words scratch) c.requires.2 c.program-read.ensures.0 c.in-Ok.is c.with_end-plan.ensures
-    (c.clear.ensures ∙ ap (λ n. replicate n 0) (c.image-1.given.1 ∙ c.requires.1)) c.program.ensures.0
+    (c.clear.ensures ∙ ap (λ n. replicate n 0) (c.image-1.given.1 ∙ c.requires.1)) c.program-again.ensures.0
     (omega (arith, c.requires.2, c.scratch-1.given.1)))
