@@ -1,14 +1,14 @@
 -- Decoding an encoded instruction gives it back, and a decoded one encodes its word.
 use Prim.Native.Nat.{ℕ, ◌+◌, ◌-◌, ◌*◌, ◌/◌, ◌%◌, ◌≤◌, ◌<◌}
-use mathlib.Core.Path.{◌≡◌, refl, ap, ap₂, sym, subst, ◌∙◌}
+use mathlib.Core.Path.{◌≡◌, refl, ap, sym, subst, ◌∙◌}
 use mathlib.Core.Logic.{◌⊎◌, inl, inr}
-use mathlib.Core.Bool.{Bool, true, false, not, ◌&&◌, ◌||◌, and-true, and-eq-true_iff}
+use mathlib.Core.Bool.{Bool, true, false, not, ◌&&◌, and-true, and-eq-true_iff}
 use mathlib.Core.List.{List, [], ◌∷◌, Memᴰ}
 use native.Mathlib.Omega.{arith}
 use lib.Dec.{T, eqb, leb, ltb, leb→le, ltb→lt}
 use borrow.Author.Tests.{leb-true, leb-false, eqb-true, eqb-false, le-leb, lt-leb, eq-eqb, ne_eqb}
 use Rattle.word.specs.Arithmetic.{bit}
-use Rattle.word.specs.Shift.{LGR, ARR, LGL, ALR, LRS}
+use Rattle.word.specs.Shift.{ALR, LRS}
 use Rattle.instruction.specs.declared.Instruction.{Instruction}
 use Rattle.instruction.specs.declared.Instruction.TheVariants.{Memory, Shift, Generic, Unknown}
 use Rattle.instruction.specs.Field.{TAG, SECTOR, indirect_of, tag_of, sector_of, opcode_of}
@@ -19,7 +19,7 @@ use Rattle.instruction.specs.Encode.{memory_word, shift_word, Encodes, memory, l
 use Rattle.instruction.specs.Agreement.{UnknownExactly, Agreement}
 use Rattle.instruction.proofs.Every.{both, both_left, both_right, off, all, passes}
 use Rattle.instruction.proofs.Choice.{cond_when, cond_all}
-use Rattle.instruction.proofs.Members.{or_either, or_right, in_member, member_in, range, in_range, in_either}
+use Rattle.instruction.proofs.Members.{or_either, or_right, in_member, member_in}
 use Rattle.instruction.proofs.Rows.{is_at, is_at_lem, decode_same, slots}
 
 -- a flag and its bit
@@ -97,11 +97,6 @@ unfolding decode_def memory_of
 decode_load_x address indirect sector nine =
     let p = parts LDX address indirect true sector (omega arith) nine in
     simp (p.code_part, p.indirect_part, p.tag_part, p.sector_part, p.address_part)
-
--- the test of the six kinds by bounds, as the code has it
-pub kind_test : (kind : ℕ) → is_in kind short_kinds ≡ ((leb LGR kind && leb kind ARR) || (leb LGL kind && leb kind ALR))
-unfolding range
-kind_test kind = in_either kind (range LGR 2) (range LGL 2) ∙ ap₂ ◌||◌ (in_range kind LGR 2) (in_range kind LGL 2)
 
 -- the kinds of both lists stand from LRS to ALR
 abbrev between : ℕ → Bool

@@ -79,6 +79,3 @@ generic_same w = generic_by w _ refl
 pub decode_same : (w : ℕ) → decode_in table_of w ≡ decode_def w
 unfolding decode_in decode_def
 decode_same w = rw (generic_same w)
-
-pub decode_with : {table : List ℕ} → table ≡ table_of → (w : ℕ) → decode_in table w ≡ decode_def w
-decode_with e w = ap (λ (t : List ℕ). decode_in t w) e ∙ decode_same w

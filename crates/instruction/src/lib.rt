@@ -16,6 +16,7 @@ pub mod opcode;
 pub mod slot;
 
 // The generic instructions (I10, I19), each at its slot. A slot that none has holds 0, the word of HLT, which is looked for at its own slot.
+// The decoder reads one word of it: an array of words, and no list of enums.
 const TABLE: [u16; slot::COUNT] = [
     0o000000, // HLT
     0, 0o141240, // ICR
@@ -122,7 +123,7 @@ fn shift(w: u16) -> Instruction
 
 // The opcode is not 0. Between IRS and MPY there is LDX alone, whose tag is its own and does not add X. It is asked for first: with one test of
 // that range every other opcode would take longer.
-#[tactic(auto, unfolding(crate::proofs::Members::range, crate::specs::Decode::memory_of))]
+#[tactic(auto, unfolding(crate::specs::Decode::memory_of))]
 fn memory(w: u16) -> Instruction
     requires { 0 < opcode_of w }
     ensures { result ≡ memory_of w }

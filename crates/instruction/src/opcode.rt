@@ -1,4 +1,4 @@
-// The opcodes of the memory-reference instructions (I2, I16, I17).
+// The opcodes of the memory-reference instructions (I2, I16, I17). Numbers, since `encode_memory` and `effect::operate` answer for any opcode.
 pub const JMP: u16 = 0o1;
 
 pub const LDA: u16 = 0o2;

@@ -1,4 +1,5 @@
 // Where each generic instruction stands in the table: its word decides, so that the decoder looks at one slot.
+// Slots stay numbers, since `effect::unary` and `effect::skips` answer for any slot.
 ghost use Rattle.std.specs.Prelude.{◌≡◌, ◌<◌};
 ghost use Rattle.instruction.specs.Slot.{slot_of};
 

@@ -69,5 +69,3 @@ step_failed image l (made t) {f} e d = (cc, cc)
 step_failed image l (failed g) {f} e d = (cc, cc)
 
 pub ruleset for_make_steps = (step_good, step_made, step_failed)
-
-pub ruleset for_step = (step_of)

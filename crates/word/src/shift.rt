@@ -4,7 +4,7 @@ ghost use Rattle.word.specs.Shift.{bit_at, logical_right, arithmetic_right, rota
 
 use crate::{Flagged, SIGN};
 
-// Each kind is the base of its instruction without the last two octal digits.
+// Each kind is the base of its instruction without the last two octal digits. Kinds stay numbers, since `shift` answers for any kind.
 pub const LGR: u16 = 0o404;
 
 pub const ARS: u16 = 0o405;
