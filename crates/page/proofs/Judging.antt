@@ -1,5 +1,5 @@
 -- How a page is judged, farm by farm and then by its lists.
-use Prim.Native.Nat.{ℕ, ◌+◌, ◌*◌, ◌≤◌, ◌<◌}
+use Prim.Native.Nat.{ℕ, zero, suc, ◌+◌, ◌*◌, ◌≤◌, ◌<◌}
 use mathlib.Core.Path.{◌≡◌, refl, sym, ap, ◌∙◌}
 use mathlib.Core.Bool.{Bool, true, false, ◌&&◌, false≢true}
 use mathlib.Core.List.{List, [], ◌∷◌, ◌++◌}
@@ -7,14 +7,14 @@ use mathlib.Core.Option.{Option, none, some, some-ne-none}
 use native.Mathlib.Nat.{zero-add}
 use native.Mathlib.Numerals.{add-one}
 use native.Mathlib.Omega.{arith}
-use borrow.Author.Tests.{eq-eqb, ne_eqb, eqb-true, eqb-false, leb-true, ltb-true, ltb-false}
+use borrow.Author.Tests.{eq-eqb, ne_eqb, eqb-true, leb-true, ltb-true, ltb-false}
 use lib.Dec.{eqb, leb, ltb}
 use lib.ListN.{length, get_or, drop, drop_of_length-le, length-drop}
 use lib.Seq.{drop-cons, sets, sets-eq}
 use Rattle.prelude.specs.Choice.{whether, given}
 use Rattle.page.specs.Names.{Name, names_of, good_name}
 use Rattle.page.specs.Page.{page_of, first_failure, failure_of, answer_of, output_after}
-use Rattle.page.specs.Readings.{length_of, farm_of, fitted_of, Sound}
+use Rattle.page.specs.Readings.{length_of, sized, name_of_size, farm_of, fitted_of, Sound}
 use Rattle.std.specs.Prelude.{Result, Ok, Err}
 use Rattle.std.specs.Result.{is_ok}
 use Rattle.text.specs.Wrote.{largest}
@@ -88,18 +88,19 @@ some_names : (bs : List ℕ) (ns : List Name) → Splits bs ns → 0 < length bs
 some_names bs [] p h = absurd (omega (arith, h, ap length p))
 some_names bs (n ∷ ns) p h = omega arith
 
-pub record Passed (litres size : ℕ) : Type 0 where
+pub record Passed (litres len size : ℕ) : Type 0 where
   pub few : litres ≤ 32767
+  pub same : size ≡ len
   pub some_bytes : size ≡ 0 → ⊥
 
-pub passed : (litres size : ℕ) → farm_of litres size ≡ Ok tt → Passed litres size
-unfolding is_made
-passed litres size e = go (ltb 32767 litres) (eqb size 0) refl refl e
+pub passed : (litres len : ℕ) {size : ℕ} → farm_of litres (sized len) ≡ Ok size → Passed litres len size
+unfolding is_made length_in
+passed litres len {size} e = go (ltb 32767 litres) len refl refl e
   where
-    go : (t u : Bool) → ltb 32767 litres ≡ t → eqb size 0 ≡ u → ◌≡◌ {A = Result (Unit {0}) ℕ} (whether t (λ _. Err 24) (λ _. whether u (λ _. Err 25) (λ _. Ok tt))) (Ok tt) → Passed litres size
-    go true u p q e = absurd (false≢true (ap is_made e))
-    go false true p q e = absurd (false≢true (ap is_made e))
-    go false false p q e = record { few = ltb-false _ _ p; some_bytes = eqb-false _ _ q }
+    go : (t : Bool) (n : ℕ) → ltb 32767 litres ≡ t → len ≡ n → ◌≡◌ {A = Result ℕ ℕ} (whether t (λ _. Err 24) (λ _. name_of_size (sized n))) (Ok size) → Passed litres len size
+    go true n p q e = absurd (false≢true (ap is_made e))
+    go false zero p q e = absurd (false≢true (ap is_made e))
+    go false (suc n) p q e = let s = ap length_in e in record { few = ltb-false _ _ p; same = sym s ∙ sym q; some_bytes = λ z. omega (arith, s, z) }
 
 module _ {names litres : List ℕ} {from farms : ℕ} (j : Judging names litres from farms) where
   there : farms < length litres → drop farms litres ≡ get_or litres farms 0 ∷ drop (farms + 1) litres
@@ -108,10 +109,10 @@ module _ {names litres : List ℕ} {from farms : ℕ} (j : Judging names litres 
   some_left : from < length names → 0 < length (drop from names)
   some_left h = let l = length-drop from names in omega (arith, l, h)
 
-  pub farm_failed : (room size f : ℕ) → from < length names → farms < length litres → size ≡ length_of (names_of (drop from names)) → farm_of (get_or litres farms 0) size ≡ Err f
+  pub farm_failed : (room f : ℕ) → from < length names → farms < length litres → farm_of (get_or litres farms 0) (sized (length_of (names_of (drop from names)))) ≡ Err f
       → answer_of names litres room ≡ Err f
   unfolding is_made number_in
-  farm_failed room size f h k e z = go (ltb 32767 (get_or litres farms 0)) (eqb size 0) refl refl z
+  farm_failed room f h k z = go (ltb 32767 (get_or litres farms 0)) (length_of (names_of (drop from names))) refl refl z
     where
       l : ℕ
       l = get_or litres farms 0
@@ -119,11 +120,12 @@ module _ {names litres : List ℕ} {from farms : ℕ} (j : Judging names litres 
       failure : (n : ℕ) → first_failure (names_of (drop from names)) (l ∷ drop (farms + 1) litres) ≡ some n → answer_of names litres room ≡ Err n
       failure n q = by_farm names litres room n (j.failures ∙ ap (first_failure (names_of (drop from names))) (there k) ∙ q)
 
-      go : (t u : Bool) → ltb 32767 l ≡ t → eqb size 0 ≡ u → ◌≡◌ {A = Result (Unit {0}) ℕ} (whether t (λ _. Err 24) (λ _. whether u (λ _. Err 25) (λ _. Ok tt))) (Err f) → answer_of names litres room ≡ Err f
-      go true u p q z = failure 24 (litres_failure (drop from names) _ _ _ (splits (drop from names)) (some_left h) (ltb-true _ _ p)) ∙ ap (λ n. Err n) (ap number_in z)
-      go false true p q z =
-          failure 25 (name_failure_lem (drop from names) _ _ _ (splits (drop from names)) (some_left h) (ltb-false _ _ p) (sym e ∙ eqb-true _ _ q)) ∙ ap (λ n. Err n) (ap number_in z)
-      go false false p q z = absurd (false≢true (sym (ap is_made z)))
+      go : (t : Bool) (n : ℕ) → ltb 32767 l ≡ t → length_of (names_of (drop from names)) ≡ n → ◌≡◌ {A = Result ℕ ℕ} (whether t (λ _. Err 24) (λ _. name_of_size (sized n))) (Err f)
+          → answer_of names litres room ≡ Err f
+      go true n p q z = failure 24 (litres_failure (drop from names) _ _ _ (splits (drop from names)) (some_left h) (ltb-true _ _ p)) ∙ ap (λ n. Err n) (ap number_in z)
+      go false zero p q z =
+          failure 25 (name_failure_lem (drop from names) _ _ _ (splits (drop from names)) (some_left h) (ltb-false _ _ p) q) ∙ ap (λ n. Err n) (ap number_in z)
+      go false (suc n) p q z = absurd (false≢true (sym (ap is_made z)))
 
   pub judging_on : (size : ℕ) → farms < length litres → get_or litres farms 0 ≤ 32767 → Named names from size → Judging names litres (from + (size + 1)) (farms + 1)
   judging_on size k b n =

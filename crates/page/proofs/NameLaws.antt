@@ -1,89 +1,128 @@
 -- Names, byte by byte.
-use Prim.Native.Nat.{ℕ, suc, ◌+◌, ◌≤◌, ◌<◌}
+use Prim.Native.Nat.{ℕ, zero, suc, ◌+◌, ◌≤◌, ◌<◌}
 use mathlib.Core.Path.{◌≡◌, refl, sym, ap, ◌∙◌}
-use mathlib.Core.Bool.{Bool, true, false, ◌&&◌, false≢true}
+use mathlib.Core.Bool.{Bool, true, false, cond, not, ◌&&◌, false≢true}
 use mathlib.Core.List.{List, [], ◌∷◌}
-use native.Mathlib.Nat.{add-zero, zero-add, suc-add}
-use native.Mathlib.Numerals.{add-one}
+use native.Mathlib.Nat.{suc-add}
+use native.Mathlib.Numerals.{one-add}
 use native.Mathlib.Omega.{arith}
-use borrow.Author.Tests.{leb-false, eq-eqb, ne_eqb}
-use lib.Dec.{eqb, leb}
-use lib.ListN.{length, get_or, take, drop, drop_of_length-le}
-use lib.Seq.{drop-cons}
-use Rattle.prelude.specs.Choice.{whether}
+use borrow.Author.Tests.{ltb-true, ltb-false, le-leb, lt-leb}
+use lib.Dec.{eqb, ltb}
+use lib.ListN.{length, take, drop}
+use Rattle.std.specs.Prelude.{Option, Some, None}
+use Rattle.std.specs.Option.{unwrap_or}
+use Rattle.std.specs.List.{position, position_or_len, list_all}
+use Rattle.std.proofs.lemmas.List.{length-take}
+use Rattle.prelude.specs.Choice.{whether, between}
 use Rattle.prelude.specs.Text.{all}
 use Rattle.page.specs.Names.{Name, before, names_of, is_printable}
-use Rattle.page.specs.Readings.{length_of}
+use Rattle.page.specs.Readings.{is_newline, length_of, sized}
 
--- ---- A name read from its first byte on
+-- ---- The first name, by the first newline
 
--- the length of a good name of which so many bytes are read, or 0
-abbrev pub scan : ℕ → List ℕ → ℕ
-scan k [] = 0
-scan k (b ∷ bs) =
-    whether (eqb b 10) (λ _. whether (leb k 14) (λ _. k) (λ _. 0)) λ _.
-    whether (is_printable b) (λ _. scan (k + 1) bs) (λ _. 0)
+same_all : (p : ℕ → Bool) (s : List ℕ) → list_all p s ≡ all p s
+unfolding all
+same_all p [] = refl
+same_all p (b ∷ bs) = ap (λ t. p b && t) (same_all p bs)
 
--- the same of the first of some names
-ahead : ℕ → List Name → ℕ
-ahead k [] = 0
-ahead k (n ∷ ns) = whether (n.ended && (all is_printable n.text && leb (k + length n.text) 14)) (λ _. k + length n.text) (λ _. 0)
+abbrev is_some : Option ℕ → Bool
+is_some (Some n) = true
+is_some None = false
 
-byte_ahead : (k b : ℕ) (ns : List Name) (v : Bool) → is_printable b ≡ v → ahead k (before b ns) ≡ whether v (λ _. ahead (k + 1) ns) (λ _. 0)
-unfolding all ahead
-byte_ahead k b [] true q = refl
-byte_ahead k b [] false q = refl
-byte_ahead k b (n ∷ ns) true q =
-    let e : k + suc (length n.text) ≡ k + 1 + length n.text = omega arith in
-    rw (q, e)
-byte_ahead k b (n ∷ ns) false q = rw q (go n.ended)
+-- an unended name, or none
+abbrev Unended : List Name → Type 0
+Unended [] = Unit
+Unended (n ∷ ns) = n.ended ≡ false
+
+unended : (bs : List ℕ) → length bs ≤ position_or_len is_newline bs → Unended (names_of bs)
+unfolding names_of
+unended [] h = tt
+unended (b ∷ bs) h = go (is_newline b) h (unended bs)
   where
-    go : (t : Bool) → whether (t && false) (λ _. k + suc (length n.text)) (λ _. 0) ≡ 0
-    go true = refl
-    go false = refl
+    go : (t : Bool) → suc (length bs) ≤ cond (not t) (1 + position_or_len is_newline bs) 0 → (length bs ≤ position_or_len is_newline bs → Unended (names_of bs))
+        → Unended (whether t (λ _. record { text = []; ended = true } ∷ names_of bs) (λ _. before b (names_of bs)))
+    go true k rest = absurd (omega (arith, k))
+    go false k rest = in_front (names_of bs) (rest (omega (arith, k)))
+      where
+        in_front : (ns : List Name) → Unended ns → Unended (before b ns)
+        in_front [] u = refl
+        in_front (n ∷ ns) u = u
 
-scanned : (k : ℕ) (bs : List ℕ) → scan k bs ≡ ahead k (names_of bs)
-unfolding names_of ahead all
-scanned k [] = refl
-scanned k (b ∷ bs) = go (eqb b 10) (is_printable b) refl (scanned (k + 1) bs)
+ended : (bs : List ℕ) → position_or_len is_newline bs < length bs → (ns : List Name) × (names_of bs ≡ record { text = take (position_or_len is_newline bs) bs; ended = true } ∷ ns)
+unfolding names_of
+ended [] h = absurd (omega (arith, h))
+ended (b ∷ bs) h = go (is_newline b) h (ended bs)
   where
-    go : (t v : Bool) → is_printable b ≡ v → scan (k + 1) bs ≡ ahead (k + 1) (names_of bs)
-        → whether t (λ _. whether (leb k 14) (λ _. k) (λ _. 0)) (λ _. whether v (λ _. scan (k + 1) bs) (λ _. 0))
-        ≡ ahead k (whether t (λ _. record { text = []; ended = true } ∷ names_of bs) (λ _. before b (names_of bs)))
-    go true v q rest = rw (add-zero k)
-    go false v q rest = ap (λ n. whether v (λ _. n) (λ _. 0)) rest ∙ sym (byte_ahead k b (names_of bs) v q)
+    k : ℕ
+    k = position_or_len is_newline bs
 
-first_length : (ns : List Name) → ahead 0 ns ≡ length_of ns
-unfolding ahead
-first_length [] = refl
-first_length (n ∷ ns) = rw (zero-add (length n.text)) (go n.ended (all is_printable n.text) (leb 1 (length n.text)) refl)
-  where
-    l : ℕ
-    l = length n.text
+    go : (t : Bool) → cond (not t) (1 + k) 0 < suc (length bs) → (k < length bs → (ns : List Name) × (names_of bs ≡ record { text = take k bs; ended = true } ∷ ns))
+        → (ns : List Name) × (whether t (λ _. record { text = []; ended = true } ∷ names_of bs) (λ _. before b (names_of bs)) ≡ record { text = take (cond (not t) (1 + k) 0) (b ∷ bs); ended = true } ∷ ns)
+    go true l rest = (names_of bs, refl)
+    go false l rest = let r = rest (omega (arith, l)) in (r.0, ap (before b) r.1 ∙ ap (λ n. record { text = take n (b ∷ bs); ended = true } ∷ r.0) (sym (one-add k)))
 
-    go : (e v t : Bool) → leb 1 l ≡ t → whether (e && (v && leb l 14)) (λ _. l) (λ _. 0) ≡ whether (e && (v && (t && leb l 14))) (λ _. l) (λ _. 0)
-    go false v t q = refl
-    go true false t q = refl
-    go true true true q = refl
-    go true true false q = let h = leb-false 1 l q in let z : l ≡ 0 = omega (arith, h) in rw z
+-- what stands at the first newline, if there is one
+module _ (bs : List ℕ) where
+  pub no_end : position is_newline bs ≡ None → length_of (names_of bs) ≡ 0
+  no_end e = go (ltb (position_or_len is_newline bs) (length bs)) refl e
+    where
+      none_good : (ns : List Name) → Unended ns → length_of ns ≡ 0
+      none_good [] u = refl
+      none_good (n ∷ ns) u = rw u
 
-pub scan_first : (bs : List ℕ) → scan 0 bs ≡ length_of (names_of bs)
-scan_first bs = scanned 0 bs ∙ first_length (names_of bs)
+      go : (t : Bool) → ltb (position_or_len is_newline bs) (length bs) ≡ t → cond t (Some (position_or_len is_newline bs)) None ≡ None → length_of (names_of bs) ≡ 0
+      go true q z = absurd (false≢true (sym (ap is_some z)))
+      go false q z = none_good (names_of bs) (unended bs (ltb-false _ _ q))
 
--- ---- What the loop meets at its offset
+  pub at_end : (k : ℕ) → position is_newline bs ≡ Some k → length_of (names_of bs) ≡ whether (list_all is_printable (take k bs) && between 1 14 k) (λ _. k) (λ _. 0)
+  at_end k e = go (ltb (position_or_len is_newline bs) (length bs)) refl e
+    where
+      measured : (m : ℕ) (ns : List Name) → m ≡ k → m < length bs
+          → length_of (record { text = take m bs; ended = true } ∷ ns) ≡ whether (list_all is_printable (take k bs) && between 1 14 k) (λ _. k) (λ _. 0)
+      measured m ns e l =
+          let f : length (take m bs) ≡ m = length-take m bs ∙ omega (arith, l) in
+          ap (λ n. whether (all is_printable (take m bs) && between 1 14 n) (λ _. n) (λ _. 0)) f
+          ∙ ap (λ t. whether (t && between 1 14 m) (λ _. m) (λ _. 0)) (sym (same_all is_printable (take m bs)))
+          ∙ ap (λ n. whether (list_all is_printable (take n bs) && between 1 14 n) (λ _. n) (λ _. 0)) e
 
-module _ (k : ℕ) (bs : List ℕ) (i : ℕ) where
-  pub scan_newline : i < length bs → get_or bs i 0 ≡ 10 → scan k (drop i bs) ≡ whether (leb k 14) (λ _. k) (λ _. 0)
-  scan_newline h e = rw (drop-cons bs i 0 h, eq-eqb _ _ e)
+      go : (t : Bool) → ltb (position_or_len is_newline bs) (length bs) ≡ t → cond t (Some (position_or_len is_newline bs)) None ≡ Some k
+          → length_of (names_of bs) ≡ whether (list_all is_printable (take k bs) && between 1 14 k) (λ _. k) (λ _. 0)
+      go true q z =
+          let l = ltb-true _ _ q in
+          let r = ended bs l in
+          ap length_of r.1 ∙ measured (position_or_len is_newline bs) r.0 (ap (λ o. unwrap_or o 0) z) l
+      go false q z = absurd (false≢true (ap is_some z))
 
-  pub scan_stopped : i < length bs → (get_or bs i 0 ≡ 10 → ⊥) → is_printable (get_or bs i 0) ≡ false → scan k (drop i bs) ≡ 0
-  scan_stopped h e v = rw (drop-cons bs i 0 h, ne_eqb _ _ e, v)
+  module _ (k : ℕ) (e : position is_newline bs ≡ Some k) where
+    pub good_length : 1 ≤ k → k ≤ 14 → list_all is_printable (take k bs) ≡ true → sized (length_of (names_of bs)) ≡ Some k
+    good_length h l p =
+        let q : whether (list_all is_printable (take k bs) && between 1 14 k) (λ _. k) (λ _. 0) ≡ k = rw (p, le-leb 1 k h, le-leb k 14 l) in
+        ap sized (at_end k e ∙ q) ∙ one_more k h
+      where
+        one_more : (n : ℕ) → 1 ≤ n → sized n ≡ Some n
+        one_more zero h = absurd (omega (arith, h))
+        one_more (suc n) h = refl
 
-  pub scan_passed : i < length bs → (get_or bs i 0 ≡ 10 → ⊥) → is_printable (get_or bs i 0) ≡ true → scan k (drop i bs) ≡ scan (k + 1) (drop (i + 1) bs)
-  scan_passed h e v = rw (drop-cons bs i 0 h, ne_eqb _ _ e, v, add-one i)
+    pub other_bytes : list_all is_printable (take k bs) ≡ false → sized (length_of (names_of bs)) ≡ None
+    other_bytes p = let q : whether (list_all is_printable (take k bs) && between 1 14 k) (λ _. k) (λ _. 0) ≡ 0 = rw p in ap sized (at_end k e ∙ q)
 
-  pub scan_ended : length bs ≤ i → scan k (drop i bs) ≡ 0
-  scan_ended h = rw (drop_of_length-le bs h)
+    pub no_bytes : k ≡ 0 → sized (length_of (names_of bs)) ≡ None
+    no_bytes z = ap sized (at_end k e ∙ go (list_all is_printable (take k bs)))
+      where
+        go : (t : Bool) → whether (t && between 1 14 k) (λ _. k) (λ _. 0) ≡ 0
+        go true = rw z
+        go false = refl
+
+    pub many_bytes : 14 < k → sized (length_of (names_of bs)) ≡ None
+    many_bytes h = ap sized (at_end k e ∙ go (list_all is_printable (take k bs)))
+      where
+        go : (t : Bool) → whether (t && between 1 14 k) (λ _. k) (λ _. 0) ≡ 0
+        go true = rw (le-leb 1 k (omega (arith, h)), lt-leb k 14 h)
+        go false = refl
+
+pub sized_back : (n : ℕ) → unwrap_or (sized n) 0 ≡ n
+sized_back zero = refl
+sized_back (suc n) = refl
 
 -- ---- The first name and the others
 
@@ -116,3 +155,5 @@ splits (b ∷ bs) = go (eqb b 10) (splits bs)
     go : (t : Bool) → Splits bs (names_of bs) → Splits (b ∷ bs) (whether t (λ _. record { text = []; ended = true } ∷ names_of bs) (λ _. before b (names_of bs)))
     go true p = λ e. record { text = refl; others = refl; inside = omega arith }
     go false p = byte_splits b bs (names_of bs) p
+
+pub ruleset for_first_length = (good_length, other_bytes, no_bytes, many_bytes)

@@ -1,5 +1,5 @@
 -- What the code's functions hand to each other; no rule rests on it.
-use Rattle.std.specs.Prelude.{Result, Ok, Err, ℕ, ◌*◌, ◌≤◌, ◌≡◌, List, [], ◌∷◌, true, ◌&&◌, eqb, leb, ltb, length}
+use Rattle.std.specs.Prelude.{Result, Ok, Err, Option, Some, None, Bool, ℕ, zero, suc, ◌*◌, ◌≤◌, ◌≡◌, List, [], ◌∷◌, true, ◌&&◌, eqb, leb, ltb, length}
 use Rattle.prelude.specs.Choice.{whether}
 use Rattle.page.specs.Names.{Name, good_name}
 
@@ -8,12 +8,21 @@ abbrev pub length_of : List Name → ℕ
 length_of [] = 0
 length_of (n ∷ ns) = whether (good_name n) (λ _. length n.text) (λ _. 0)
 
--- what is wrong with a farm, by its litres and that length
-abbrev pub farm_of : ℕ → ℕ → Result (Unit {0}) ℕ
-farm_of litres size =
-    whether (ltb 32767 litres) (λ _. Err 24) λ _.
-    whether (eqb size 0) (λ _. Err 25) λ _.
-    Ok tt
+abbrev pub is_newline : ℕ → Bool
+is_newline b = eqb b 10
+
+-- a length, if there is one: no good name has 0 bytes
+abbrev pub sized : ℕ → Option ℕ
+sized zero = None
+sized (suc n) = Some (suc n)
+
+-- what is wrong with a farm, by its litres and that length, or the length
+abbrev pub name_of_size : Option ℕ → Result ℕ ℕ
+name_of_size None = Err 25
+name_of_size (Some n) = Ok n
+
+abbrev pub farm_of : ℕ → Option ℕ → Result ℕ ℕ
+farm_of litres size = whether (ltb 32767 litres) (λ _. Err 24) (λ _. name_of_size size)
 
 -- the answer for so many farms that have nothing wrong
 abbrev pub fitted_of : ℕ → ℕ → Result ℕ ℕ

@@ -2,13 +2,14 @@
 #![tactic(auto)]
 
 ghost use Rattle.std.specs.Prelude.{◌≡◌, ◌+◌, ◌≤◌, length, drop};
+ghost use Rattle.std.specs.List.{position, list_all};
 ghost use Rattle.text.specs.Adds.{Adds};
 ghost use Rattle.page.specs.Names as spec;
 ghost use Rattle.page.specs.Names.{names_of};
 ghost use Rattle.page.specs.Failures.{numbered};
 ghost use Rattle.page.specs.Page.{farm_line, page_of, answer_of, PageCalled};
 ghost use Rattle.page.specs.PageLaws.{PageLaws};
-ghost use Rattle.page.specs.Readings.{length_of, farm_of, fitted_of, Sound};
+ghost use Rattle.page.specs.Readings.{is_newline, length_of, sized, farm_of, fitted_of, Sound};
 
 use text::Text;
 
@@ -31,40 +32,56 @@ fn is_printable(byte: u8) -> bool
     32 <= byte && byte <= 126
 }
 
-// The length of the name that begins at an offset, or 0 if it is not as it should be (F25).
-fn name_length(names: &[u8], from: usize) -> usize
-    requires { from ≤ length names.now }
-    ensures { result ≡ length_of (names_of (drop from names.now)) }
+fn newline(text: &[u8]) -> Option<usize>
+    ensures { result ≡ position is_newline text.now }
 {
-    let mut end = from;
-    while end < names.len() {
-        let byte = names[end];
-        if byte == b'\n' {
-            return if end - from <= LONGEST_NAME {
-                end - from
-            } else {
-                0
-            };
-        }
-        if !is_printable(byte) {
-            return 0;
-        }
-        end += 1;
-    }
-    0
+    text.iter().position(|b| *b == b'\n')
 }
 
-// What is wrong with a farm, by its litres and the length of its name (F24, F25).
-fn check_farm(litres: u16, size: usize) -> Result<(), Failure>
+fn all_printable(text: &[u8]) -> bool
+    ensures { result ≡ list_all spec.is_printable text.now }
+{
+    text.iter().all(|b| is_printable(*b))
+}
+
+// The length of the first name, if it is as it should be (F25).
+#[tactic(auto, using(crate::proofs::NameLaws::for_first_length))]
+fn first_length(names: &[u8]) -> Option<usize>
+    ensures { result ≡ sized (length_of (names_of names.now)) }
+{
+    let end = newline(names)?;
+    if end == 0 {
+        return None;
+    }
+    if LONGEST_NAME < end {
+        return None;
+    }
+    if all_printable(&names[..end]) {
+        Some(end)
+    } else {
+        None
+    }
+}
+
+// The same of the name that begins at an offset.
+fn name_length(names: &[u8], from: usize) -> Option<usize>
+    requires { from ≤ length names.now }
+    ensures { result ≡ sized (length_of (names_of (drop from names.now))) }
+{
+    first_length(&names[from..])
+}
+
+// What is wrong with a farm, by its litres and the length of its name, or that length (F24, F25).
+fn check_farm(litres: u16, size: Option<usize>) -> Result<usize, Failure>
     ensures { numbered result ≡ farm_of litres size }
 {
     if MOST_LITRES < litres {
         return Err(Failure::BadLitres);
     }
-    if size == 0 {
-        return Err(Failure::BadName);
+    match size {
+        Some(size) => Ok(size),
+        None => Err(Failure::BadName),
     }
-    Ok(())
 }
 
 // The page's length for farms that have nothing wrong, by their number and the bytes of the output (F26).
@@ -87,8 +104,7 @@ fn judge(names: &[u8], litres: &[u16], room: usize) -> Result<usize, Failure>
         if names.len() <= from {
             return Err(Failure::BadLists);
         }
-        let size = name_length(names, from);
-        check_farm(delivered, size)?;
+        let size = check_farm(delivered, name_length(names, from))?;
         from += size + 1;
     }
     if from < names.len() {
@@ -125,7 +141,7 @@ fn put_lines(text: &mut Text<'_>, names: &[u8], litres: &[u16])
     let mut from = 0;
     let mut total = 0;
     for &delivered in litres {
-        let end = from + name_length(names, from);
+        let end = from + name_length(names, from).unwrap_or(0);
         total = carried(total, delivered);
         put_line(text, &names[from..end], delivered, total);
         from = end + 1;

@@ -1,16 +1,21 @@
 -- Names and globals as they are shown.
-use Prim.Native.Nat.{ℕ, suc, ◌+◌, ◌-◌, ◌*◌, ◌/◌, ◌%◌, ◌≤◌, ◌<◌}
+use Prim.Native.Nat.{ℕ, zero, suc, ◌+◌, ◌-◌, ◌*◌, ◌/◌, ◌%◌, ◌≤◌, ◌<◌}
 use mathlib.Core.Path.{◌≡◌, refl, sym, ap, ◌∙◌}
-use mathlib.Core.Bool.{Bool, true, false, ◌||◌}
+use mathlib.Core.Bool.{Bool, true, false, cond, not, ◌||◌}
 use mathlib.Core.Logic.{◌⊎◌, inl, inr}
 use mathlib.Core.List.{List, [], ◌∷◌, ◌++◌, foldl, append_assoc, append-nil}
 use native.Mathlib.Nat.{sub-zero}
 use native.Mathlib.Numerals.{add-one}
 use native.Mathlib.Omega.{arith}
-use borrow.Author.Tests.{eq-eqb, ne_eqb, lt-ltb, le-leb}
+use borrow.Author.Tests.{eqb-true, eqb-false, eq-eqb, ne_eqb, lt-ltb, le-leb}
 use lib.Dec.{eqb}
 use lib.ListN.{length, get_or, take}
 use lib.Seq.{take-suc}
+use Rattle.std.specs.Prelude.{reverse}
+use Rattle.std.specs.Option.{unwrap_or}
+use Rattle.std.specs.List.{position, position_or_len}
+use Rattle.std.proofs.lemmas.List.{reverse-append, length-reverse, take_all}
+use Rattle.failure_report.proofs.Laws.{first_place}
 use Rattle.prelude.specs.Choice.{whether}
 use Rattle.prelude.specs.Text.{bytes}
 use Rattle.digits.specs.Digits.{decimal, newline}
@@ -36,7 +41,7 @@ use Rattle.compiler.proofs.ReadingLaws.{on_table}
 use Rattle.parser.proofs.ReadLaws.{never, came, failed_as}
 use Rattle.report.specs.Shown.{ProgramRead}
 use Rattle.symbols.specs.Table.{row_at, row_of, entries_of, live_names}
-use Rattle.report.specs.Globals.{element_head, element_end, element_text, elements_text, array_text, id_text, symbol_text, size_of, next_array, names_text, declaration_text, globals_text}
+use Rattle.report.specs.Globals.{is_some_byte, element_head, element_end, element_text, elements_text, array_text, id_text, symbol_text, size_of, next_array, names_text, declaration_text, globals_text}
 
 -- ---- Bytes without the zeros at their end
 
@@ -58,15 +63,37 @@ module _ (bs : List ℕ) (n : ℕ) (h : 0 < n) (l : n ≤ length bs) where
   last_taken : take n bs ≡ take (n - 1) bs ++ (get_or bs (n - 1) 0 ∷ [])
   last_taken = let e : n ≡ suc (n - 1) = omega (arith, h) in ap (λ k. take k bs) e ∙ take-suc bs (n - 1) 0 (omega (arith, h, l))
 
-  pub zero_passed : get_or bs (n - 1) 0 ≡ 0 → trimmed (take n bs) ≡ trimmed (take (n - 1) bs)
+  zero_passed : get_or bs (n - 1) 0 ≡ 0 → trimmed (take n bs) ≡ trimmed (take (n - 1) bs)
   zero_passed e = ap trimmed (last_taken ∙ ap (λ b. take (n - 1) bs ++ (b ∷ [])) e) ∙ zero_dropped (take (n - 1) bs)
 
-  pub other_stays : (get_or bs (n - 1) 0 ≡ 0 → ⊥) → take n bs ≡ trimmed (take n bs)
+  other_stays : (get_or bs (n - 1) 0 ≡ 0 → ⊥) → take n bs ≡ trimmed (take n bs)
   other_stays e = last_taken ∙ sym (ap trimmed last_taken ∙ other_kept (take (n - 1) bs) (get_or bs (n - 1) 0) e)
 
-pub none_taken : (bs : List ℕ) (n : ℕ) → n ≤ 0 → trimmed (take n bs) ≡ trimmed bs → take 0 bs ≡ trimmed bs
+-- up to a byte from the end, by the last one but zeros
+before_zeros : (bs : List ℕ) (n : ℕ) → n ≤ length bs → take (n - position_or_len is_some_byte (reverse (take n bs))) bs ≡ trimmed (take n bs)
 unfolding trimmed
-none_taken bs n h e = let z : n ≡ 0 = omega (arith, h) in ap (λ k. trimmed (take k bs)) (sym z) ∙ e
+before_zeros bs zero h = refl
+before_zeros bs (suc n) h =
+    rw (ap reverse (take-suc bs n 0 (omega (arith, h))) ∙ reverse-append (take n bs) (get_or bs n 0 ∷ [])) (go (eqb (get_or bs n 0) 0) refl (before_zeros bs n (omega (arith, h))))
+  where
+    k : ℕ
+    k = position_or_len is_some_byte (reverse (take n bs))
+
+    go : (t : Bool) → eqb (get_or bs n 0) 0 ≡ t → take (n - k) bs ≡ trimmed (take n bs) → take (suc n - cond (not (not t)) (1 + k) 0) bs ≡ trimmed (take (suc n) bs)
+    go true q e =
+        let last : suc n - 1 ≡ n = omega arith in
+        let one : suc n - (1 + k) ≡ n - k = omega arith in
+        ap (λ m. take m bs) one ∙ e ∙ ap (λ m. trimmed (take m bs)) (sym last) ∙ sym (zero_passed bs (suc n) (omega arith) h (rw last (eqb-true _ _ q)))
+    go false q e =
+        let last : suc n - 1 ≡ n = omega arith in
+        let none : suc n - 0 ≡ suc n = omega arith in
+        ap (λ m. take m bs) none ∙ other_stays bs (suc n) (omega arith) h (λ z. eqb-false (get_or bs n 0) 0 q (rw last at z))
+
+pub trimmed_at : (bs : List ℕ) {k : ℕ} → k ≡ unwrap_or (position is_some_byte (reverse bs)) (length bs) → (take (length bs - k) bs ≡ trimmed bs) × (length bs - k ≤ length bs)
+trimmed_at bs {k} e =
+    let p : k ≡ position_or_len is_some_byte (reverse bs) = e ∙ ap (unwrap_or (position is_some_byte (reverse bs))) (sym (length-reverse bs)) ∙ first_place is_some_byte (reverse bs) in
+    let w : take (length bs) bs ≡ bs = take_all (length bs) bs (omega arith) in
+    (ap (λ m. take (length bs - m) bs) p ∙ ap (λ cs. take (length bs - position_or_len is_some_byte (reverse cs)) bs) (sym w) ∙ before_zeros bs (length bs) (omega arith) ∙ ap trimmed w, omega arith)
 
 -- ---- Elements
 
@@ -205,5 +232,3 @@ pub ruleset for_put_elements = (last_place)
 pub ruleset for_put_end = (row_ends, row_open)
 
 pub ruleset for_put_head = (row_starts, row_goes_on)
-
-pub ruleset for_trimmed_length = (zero_passed, other_stays, none_taken)

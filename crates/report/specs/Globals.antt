@@ -1,5 +1,5 @@
 -- The globals as the machine's memory has them.
-use Rattle.std.specs.Prelude.{ℕ, zero, suc, ◌+◌, ◌-◌, ◌%◌, ◌||◌, List, [], ◌∷◌, ◌++◌, eqb, get_or}
+use Rattle.std.specs.Prelude.{Bool, not, ℕ, zero, suc, ◌+◌, ◌-◌, ◌%◌, ◌||◌, List, [], ◌∷◌, ◌++◌, eqb, get_or}
 use Rattle.prelude.specs.Choice.{whether}
 use Rattle.digits.specs.Digits.{decimal, signed, newline}
 use Rattle.prelude.specs.Text.{bytes}
@@ -58,6 +58,10 @@ globals_text memory st [] = []
 globals_text memory st (d ∷ ds) = declaration_text memory st d ++ globals_text memory (allocate st d) ds
 
 -- ---- The same by the symbol table, newest first
+
+-- a byte of a name, which is none of the zeros that fill it
+abbrev pub is_some_byte : ℕ → Bool
+is_some_byte b = not (eqb b 0)
 
 -- how many elements a symbol takes, and element 0 of the next array after some names (A5)
 unfoldable pub size_of : Symbol → ℕ

@@ -1,10 +1,11 @@
 // The globals as the machine's memory has them: each integer, and each array in rows of ten, in order of declaration.
-ghost use Rattle.std.specs.Prelude.{◌≡◌, ◌-◌, ◌*◌, ◌≤◌, get_or, length, take};
+ghost use Rattle.std.specs.Prelude.{reverse, ◌≡◌, ◌-◌, ◌*◌, ◌≤◌, get_or, length, take};
+ghost use Rattle.std.specs.List.{position};
 ghost use Rattle.text.specs.Adds.{Adds};
 ghost use Rattle.symbols.specs.Packing.{trimmed, unpack};
 ghost use Rattle.symbols.specs.Table.{entry_words, entries_of};
 ghost use Rattle.symbols.specs.Trees.{tree_id, tree_symbol};
-ghost use Rattle.report.specs.Globals.{element_head, element_end, element_text, elements_text, array_text, id_text, symbol_text, size_of, names_text};
+ghost use Rattle.report.specs.Globals.{is_some_byte, element_head, element_end, element_text, elements_text, array_text, id_text, symbol_text, size_of, names_text};
 
 use layout::addresses;
 use symbols::{Id, Packed, Row, Symbol};
@@ -24,19 +25,18 @@ pub fn word_at(image: &[u16], at: usize) -> u16
     image.get(at).copied().unwrap_or(0)
 }
 
+// The last byte but zeros, from the end.
+fn last_byte(bytes: &[u8]) -> Option<usize>
+    ensures { result ≡ position is_some_byte (reverse bytes.now) }
+{
+    bytes.iter().rev().position(|b| *b != 0)
+}
+
 // How many bytes stand before the zeros at the end.
-#[tactic(auto, using(crate::proofs::Laws::for_trimmed_length))]
 fn trimmed_length(bytes: &[u8]) -> usize
     ensures { (take result bytes.now ≡ trimmed bytes.now) × (result ≤ length bytes.now) }
 {
-    let mut n = bytes.len();
-    while 0 < n {
-        if bytes[n - 1] != 0 {
-            return n;
-        }
-        n -= 1;
-    }
-    0
+    bytes.len() - last_byte(bytes).unwrap_or(bytes.len())
 }
 
 #[tactic(auto, unfolding(symbols::specs::Packing::unpack))]

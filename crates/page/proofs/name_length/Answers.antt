@@ -1,9 +1,11 @@
-use mathlib.Core.Path.{◌≡◌}
+use mathlib.Core.Path.{ap, ◌∙◌}
 use native.Mathlib.Omega.{arith}
-use Prim.Native.Nat.{◌-◌}
-use Rattle.page.proofs.NameLaws.{scan_first}
+use lib.ListN.{length-drop}
+use Rattle.std.proofs.lemmas.List.{take_all}
+use Rattle.page.specs.Names.{names_of}
+use Rattle.page.specs.Readings.{length_of, sized}
 use Rattle.page.proofs.name_length.Goals as goal
 
-pub loop-end-init : goal.loop-end-init
-loop-end-init c = let start : c.args.from - c.args.from ≡ 0 = omega arith in
-    (omega arith, c.requires, rw start (scan_first _))
+pub returns : goal.returns
+returns c = let l = length-drop c.args.from c.args.names.now in
+    c.first_length.ensures ∙ ap (λ bs. sized (length_of (names_of bs))) (take_all _ _ (omega (arith, l)))
