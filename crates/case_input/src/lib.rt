@@ -6,7 +6,7 @@ ghost use Rattle.case_input.specs.Cases.{is_digit, grown, number_from, word_of, 
 
 use effect::{Registers, Switches};
 
-// A number, and where the next one starts.
+// A number, and where the next one starts: `parse_number` promises both, also for a number that is missing.
 #[derive(Debug, Clone, Copy, PartialEq, Eq)]
 pub struct Number {
     pub value: u32,

@@ -11,6 +11,7 @@ ghost use Rattle.machine_export.specs.Export.{outcome_of, with_machine, clock_nu
 use effect::{Registers, Switches};
 use machine::{Clock, Machine, Outcome, Report, Request};
 
+// The places of the C interface: numbers, as its callers have them.
 const A: usize = 0;
 
 const B: usize = 1;
@@ -131,6 +132,7 @@ fn clock_of(clock: &[u32]) -> Clock
     }
 }
 
+// Says once, for the nine stores, that the number is the bit of the definitions.
 fn number(flag: bool) -> u32
     ensures { result ≡ bit flag }
 {
