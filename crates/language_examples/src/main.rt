@@ -20,7 +20,7 @@ fn heading(rt: &impl Print, name: &[u8], turns: u32, digits: &[u8], switches: Sw
     print(rt, b"\n");
 }
 
-// Compiles a source, runs it and prints what came of it.
+// Compiles a source, runs it and prints what came of it, as `run` does: a crate shared by these two programs would be longer than the seven lines.
 fn show(rt: &impl Print, source: &[u8], turns: u32, switches: Switches) {
     let mut image = [0u16; 16384];
     let mut scratch = [0u16; SCRATCH_WORDS];
