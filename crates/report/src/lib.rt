@@ -33,8 +33,11 @@ pub fn show(
             let ran = run_turns(&mut *image, first, turns);
             put_run(&mut text, source, ran, image, &mut *scratch);
             compiler::clear(&mut *scratch);
+            text.len
         }
-        Err(failure) => put_failure(&mut text, source, failure.cause.number(), failure.at),
+        Err(failure) => {
+            put_failure(&mut text, source, failure.cause.number(), failure.at);
+            text.len
+        }
     }
-    text.len
 }
