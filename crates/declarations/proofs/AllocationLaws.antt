@@ -81,8 +81,6 @@ next_closed s image image' ends output h few e code pool laid =
         (record { scope = record { names = live_names s.names table; level = Level.outer; taken = s.taken }; next = 512 * suc (suc (length (ends_of s.sectors))); pool = []; ends = ends_of s.sectors ++ (s.output.next ∷ []); array = s.array })
     next_allocation table p q r = rw (p, q, r)
 
-pub ruleset for_declarations = (none_declared)
-
 pub ruleset for_store_pool = (stored_next)
 
 pub ruleset for_fill = (stored_zero)

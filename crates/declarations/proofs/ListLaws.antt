@@ -119,5 +119,3 @@ pub locals_next : (source : List ℕ) (word : ItemKeyword) (at : ℕ) {s s' : co
     → DeclaresItems s' t' i' r t'' i'' (parse_list source (parse_local source (scope_of s' t') word) [] at) → DeclaresItems s t i r t'' i'' (parse_list source (parse_local source (scope_of s t) word) done at)
 locals_next source word at {s} {t = t} {done = done} p r =
     reads_as (λ items. done ++ items) r (list_more source (scope_of s t) word done at ∙ ap (λ z. mapped (λ items. done ++ items) (parse_list source (parse_local source z word) [] at)) (sym p.scope)) (λ items x d. more_scoped p d) (λ w. w)
-
-pub ruleset for_locals = (locals_first, local_none, local_some, locals_next)

@@ -132,5 +132,3 @@ named_by source word s table at = ap (λ l. and_then (new_name source (scope_of 
 pub item_room : (source : List ℕ) (word : ItemKeyword) (scope : Scope) (at : ℕ) {x : Name × Item} {n : ℕ} → parse_item source word scope at ≡ got x n → length scope.names < 512
 unfolding parse_item
 item_room source word scope at e = name_room source scope (item_limit word scope) (token_at source at) (then_inv _ _ e).2
-
-pub ruleset for_locals = (none_scoped)

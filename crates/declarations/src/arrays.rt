@@ -149,7 +149,7 @@ impl Allocation {
         })
     }
 
-    // Arrays separated by commas, each declared before the next.
+    // Arrays separated by commas, each declared before the next. The loop is written out, as in `lists`.
     fn array_list(
         self,
         source: &[u8],

@@ -79,6 +79,7 @@ pub struct Reading {
     pub end: Output,
 }
 
+// It is not one bounded push with the pool's `with`, which finds a value first, and which holds 512 words where this holds 32.
 /// One code end more, while there is room.
 #[tactic(auto, unfolding(crate::specs::Allocations::with_end))]
 pub fn with_end(sectors: SectorEnds, end: u16) -> SectorEnds

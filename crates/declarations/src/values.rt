@@ -64,7 +64,7 @@ fn stored_value(
     })
 }
 
-// Initial values separated by commas, stored from an address on; and how many there are.
+// Initial values separated by commas, stored from an address on; and how many there are. The loop is written out, as in `lists`.
 fn values(reader: &Reader<'_>, image: &mut [u16], first: usize, size: u16, at: usize) -> Read<u16>
     requires { first + size ≤ 65536 }
     ensures { Declares (λ values count. Filled first size image.old count image.new values) result
