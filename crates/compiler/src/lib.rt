@@ -65,11 +65,7 @@ fn by_number(failure: Failure) -> Failure
 }
 
 // The two readings. They have the first TABLE_WORDS words of scratch, for the symbol table; the rest is only cleared.
-fn read_twice(
-    source: &[u8],
-    image: &mut [u16],
-    scratch: &mut [u16],
-) -> Result<Program, Failure>
+fn read_twice(source: &[u8], image: &mut [u16], scratch: &mut [u16]) -> Result<Program, Failure>
     requires { (length source.now ≤ 8192) × (length image.old ≡ memory_words) × (table_words ≤ length scratch.old) }
     ensures { Answers (compile_def source.now) image.old result image.new }
 {
@@ -124,11 +120,7 @@ fn check_and_compile(
 
 /// Compiles a source of up to 8,192 bytes into an image of 16,384 words, with SCRATCH_WORDS words of scratch or more (F1 to F3).
 /// A failed source leaves the image as it was (J13). Whatever the answer, scratch ends as zeros.
-pub fn compile(
-    source: &[u8],
-    image: &mut [u16],
-    scratch: &mut [u16],
-) -> Result<Program, Failure>
+pub fn compile(source: &[u8], image: &mut [u16], scratch: &mut [u16]) -> Result<Program, Failure>
     ensures { CompileCalled source.now image.old scratch.old result image.new scratch.new }
 {
     let answer = check_and_compile(source, &mut *image, &mut *scratch);

@@ -120,7 +120,7 @@ pub(crate) fn procedure(
     })
 }
 
-// The same after `.ACCUMULATOR`.
+// The same after `.ACCUMULATOR`. A form of the grammar of its own, and so a function of its own.
 pub(crate) fn accumulator(
     source: &[u8],
     table: &mut [u16],

@@ -17,6 +17,9 @@ use Rattle.digits.specs.Digits.{decimal_by, decimal, left_in, right_in, digits_f
 pub next_space : (n : ℕ) → 0 < n → ◌≡◌ {A = List ℕ} (replicate n 32) ((32 ∷ []) ++ replicate (n - 1) 32)
 next_space n h = let e : n ≡ suc (n - 1) = omega (arith, h) in ap (λ k. replicate {A = ℕ} k 32) e
 
+pub no_space : (n : ℕ) → n ≤ 0 → ◌≡◌ {A = List ℕ} (replicate n 32) []
+no_space n h = let e : n ≡ 0 = omega (arith, h) in ap (λ k. replicate {A = ℕ} k 32) e
+
 -- ---- How many digits
 
 -- at most so many

@@ -19,7 +19,7 @@ const FIRST_GLOBAL: usize = addresses::FIRST_GLOBAL as usize;
 
 const FIRST_CODE: usize = addresses::FIRST_CODE as usize;
 
-// A name and a number in octal.
+// A name and a number in octal. Apart from the next: one function of both would take a flag, and each caller say which.
 fn put_line(text: &mut Text<'_>, name: &[u8], n: usize)
     ensures { Adds text.old text.new (line name.now (octal n)) }
 {
@@ -80,11 +80,13 @@ fn put_listing(text: &mut Text<'_>, answer: Result<Program, Failure>, image: &[u
     ensures listing { AddsListing answer image.now text.old text.new }
 {
     match answer {
-        Ok(Program {
-            entry,
-            words,
-            globals,
-        }) => {
+        Ok(
+            Program {
+                entry,
+                words,
+                globals,
+            },
+        ) => {
             put_result(text, 0, 0);
             put_counts(text, entry, words, globals);
             put_words(text, image, b"g=", FIRST_GLOBAL, globals);

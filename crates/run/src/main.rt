@@ -26,6 +26,7 @@ fn usage(rt: &impl Print) {
 }
 
 // The second argument, or one turn where there is none. An argument that does not fit the buffer makes no sense.
+// No one function with a closure for it and the third: what two arms of each would share is two lines.
 fn turns_argument(rt: &impl Env) -> Option<u32> {
     let mut text = [0u8; LONGEST_ARGUMENT];
     match rt.arg(2, &mut text) {

@@ -18,6 +18,7 @@ pub mod lookup;
 // The level is 0 for a global, and 1 more than its procedure's number for a local.
 pub const ENTRY: usize = 7;
 
+// Words of lent scratch, and so numbers: a row is read back from any words.
 // The tags of the symbols; UNKNOWN and any other are a name that nothing is known of.
 const INTEGER: u16 = 1;
 

@@ -3,12 +3,13 @@ use Prim.Native.Nat.{ℕ, suc, ◌+◌, ◌-◌, ◌/◌, ◌%◌, ◌^◌, ◌�
 use mathlib.Core.Path.{◌≡◌, refl, sym, ap, ◌∙◌}
 use mathlib.Core.Bool.{Bool, true, false}
 use mathlib.Core.List.{List, [], ◌∷◌, ◌++◌}
+use native.Mathlib.Nat.{add-zero, add-suc, suc-add}
 use native.Mathlib.Numerals.{add-one}
 use native.Mathlib.Omega.{arith}
 use borrow.Author.Tests.{leb-true, leb-false, lt-ltb, le-ltb}
 use lib.Dec.{leb}
-use lib.ListN.{length, take, set, get_or, replicate, length-set}
-use lib.Seq.{sets, set_out, take-suc}
+use lib.ListN.{length, take, set, get_or, replicate, length-set, length-append}
+use lib.Seq.{sets, set_out, take-suc, length-sets}
 use Rattle.std.proofs.lemmas.List.{replicate_more}
 use Rattle.digits.specs.Digits.{decimal_by, decimal, signed}
 use Rattle.digits.proofs.Widths.{next_digit, no_more_digits}
@@ -19,6 +20,10 @@ use Rattle.text.specs.declared.Text.{Text}
 -- ---- Runs of stores
 
 module _ {A : Type 0} where
+  sets_append : (l : List A) (at : ℕ) (us vs : List A) → sets l at (us ++ vs) ≡ sets (sets l at us) (at + length us) vs
+  sets_append l at [] vs = rw add-zero
+  sets_append l at (u ∷ us) vs = sets_append (set l at u) (suc at) us vs ∙ rw (add-suc at (length us), suc-add at (length us))
+
   -- past the end nothing is stored
   sets_out : (l : List A) (at : ℕ) (us : List A) → length l ≤ at → sets l at us ≡ l
   sets_out l at [] h = refl
@@ -38,6 +43,20 @@ capped l n us h = go (leb n largest) refl
         ap (λ x. sets l x us) e ∙ sets_out l largest us h ∙ sym (sets_out l n us (omega (arith, k, h)))
 
 -- ---- Texts one after another
+
+module _ {a b c : List ℕ} {at m r : ℕ} {u v : List ℕ} where
+  pub then : Wrote a b at m u → Wrote b c m r v → Wrote a c at r (u ++ v)
+  then p q =
+      let n = p.ends in
+      let k = q.ends in
+      let l = length-append u v in
+      let s = length-sets a at u in
+      let h = p.short in
+      record {
+        written = q.written ∙ ap (λ x. sets x m v) p.written ∙ ap (λ x. sets (sets a at u) x v) n ∙ capped (sets a at u) (at + length u) v (omega (arith, s, h)) ∙ sym (sets_append a at u v);
+        ends = omega (arith, n, k, l);
+        short = h;
+      }
 
 added_append : (t : List ℕ × ℕ) (us vs : List ℕ) → added t (us ++ vs) ≡ added (added t us) vs
 unfolding added

@@ -127,7 +127,7 @@ fn free(width: usize, taken: usize) -> usize
     width.saturating_sub(taken)
 }
 
-// How many decimal digits a number has.
+// How many decimal digits a number has. By a `while`: no index is counted, and `ilog10` asks for a number above 0.
 #[tactic(auto, using(digits::proofs::Widths::for_decimal_length))]
 fn decimal_length(n: usize) -> usize
     ensures { result ≡ length (decimal n) }

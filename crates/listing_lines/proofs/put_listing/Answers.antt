@@ -1,4 +1,4 @@
-use native.Mathlib.Omega.{arith}
+use Rattle.std.proofs.Common.{rules}
 use Rattle.text.proofs.Laws.{and_then}
 use Rattle.listing_lines.proofs.Laws.{whole_accepted, whole_failed}
 use Rattle.listing_lines.proofs.put_listing.Goals as goal
@@ -8,7 +8,7 @@ returns-in-Ok c =
     let all = and_then c.put_result.ensures (and_then c.put_counts.ensures (and_then c.put_words.ensures c.put_words-in-Ok.ensures)) in
     record {
       same_buffer = all.same_buffer;
-      listing = whole_accepted _ _ c.in-Ok.is (omega arith) (omega arith) all;
+      listing = whole_accepted _ _ c.in-Ok.is (search rules) (search rules) all;
     }
 
 pub returns-in-Err : goal.returns-in-Err
