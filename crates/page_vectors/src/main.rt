@@ -74,6 +74,7 @@ fn case(rt: &impl Print, text: &[u8], at: usize, number: u32) -> usize {
     count.next
 }
 
+// Five programs have one like it: a function of them all would be handed a closure for the case, and each call would be no shorter.
 fn cases(rt: &impl Print, text: &[u8]) {
     let count = parse_number(text, 0);
     let last = count.value;
