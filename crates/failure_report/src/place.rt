@@ -1,7 +1,7 @@
 // Lines and columns, both counted from 1; a newline, and nothing else, ends a line (O1).
 ghost use Rattle.std.specs.Prelude.{◌≡◌, ◌+◌, ◌≤◌, length, drop, count_by, reverse};
 ghost use Rattle.std.specs.List.{position};
-ghost use Rattle.failure_report.specs.Place.{is_newline, newlines_before, line_start, line_of, column_of, line_length};
+ghost use Rattle.failure_report.specs.Place.{is_newline, line_start, line_of, column_of, line_length};
 
 const NEWLINE: u8 = b'\n';
 

@@ -1,5 +1,5 @@
 -- A clock record copied behind the number of the clock.
-use Rattle.std.proofs.Common.{◌≡◌, ◌+◌, ◌-◌, ◌<◌, ℕ, suc, List, [], ◌∷◌, ◌++◌, length, set, take, drop, refl, sym, ap, ◌∙◌, append-nil, arith}
+use Rattle.std.proofs.Common.{◌≡◌, ◌+◌, ◌-◌, ℕ, suc, List, [], ◌∷◌, ◌++◌, length, set, ap, ◌∙◌, append-nil, arith}
 use lib.ListN.{drop_of_length-le}
 use borrow.Rule.Slice.PartMut.{put_mid}
 
