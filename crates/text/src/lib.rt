@@ -87,7 +87,7 @@ impl<'a> Text<'a> {
         if TWO_DIGITS <= n {
             self.decimal(n / 10);
         }
-        self.byte((48 + n % 10) as u8);
+        self.byte(decimal_digit(n));
     }
 
     // A word as a signed number.
@@ -118,6 +118,13 @@ impl<'a> Text<'a> {
         self.spaces(free(width, decimal_length(n)));
         self.decimal(n);
     }
+}
+
+// The lowest decimal digit.
+fn decimal_digit(n: usize) -> u8
+    ensures { result ≡ 48 + n % 10 }
+{
+    (48 + n % 10) as u8
 }
 
 // How many columns are free; none, where more are taken.
