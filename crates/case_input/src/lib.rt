@@ -127,10 +127,13 @@ impl Numbers<'_> {
         ensures set { (image.new, self.new.at) ≡ words_from self.old.text.now self.old.at image.old }
         ensures same { self.new.text.now ≡ self.old.text.now }
     {
-        for _ in 0..self.number() {
-            let address = self.number();
-            image[(address % 16384) as usize] = self.word();
+        // A copy of its own: the place need not be written back at each number.
+        let mut numbers = *self;
+        for _ in 0..numbers.number() {
+            let address = numbers.number();
+            image[(address % 16384) as usize] = numbers.word();
         }
+        *self = numbers;
     }
 }
 
