@@ -8,7 +8,8 @@ use Rattle.effect.specs.Double.{multiply_of, divide_of, long_left_of, long_right
 use Rattle.effect.specs.Effects.{operate_of, unary_of}
 use Rattle.effect.specs.Skips.{skips_of}
 use Rattle.machine.specs.declared.Machine.{Machine}
-use Rattle.machine.specs.declared.failure.Failure.TheVariants.{LongChain, UnknownWord}
+use Rattle.machine.specs.Failure.{number_of}
+use Rattle.machine.specs.declared.failure.Failure.TheVariants.{WrongImage, UnknownWord, LongChain, OverBudget, WrongP, WrongCooperative}
 use Rattle.machine.specs.declared.Outcome.{Outcome}
 use Rattle.machine.specs.declared.Outcome.TheVariants.{Halted, Spent, Failed}
 use Rattle.machine.specs.State.{state}
@@ -171,3 +172,7 @@ rows =
 examples : map (λ (row : String × Before × After). shown row.2.words (run row.1)) rows ≡ map {B = After} (λ (row : String × Before × After). row.2) rows
 unfolding run_def run_from step_def decode_def shift_of generic_of find_word generics memory_of follow_of memory_def generic_def multiply_of divide_of long_left_of long_right_of operate_of unary_of skips_of compare_of
 examples = refl
+
+-- the numbers that the failures of these rows, of `ClockExamples` and of the examples of `runs` and `turns` stand for (F1, F20 to F23, F27)
+numbers : map {B = ℕ} number_of (WrongImage ∷ UnknownWord ∷ LongChain ∷ OverBudget ∷ WrongP ∷ WrongCooperative ∷ []) ≡ 1 ∷ 20 ∷ 21 ∷ 22 ∷ 23 ∷ 27 ∷ []
+numbers = refl
