@@ -37,7 +37,7 @@ use Rattle.layout.specs.Addresses.{memory_words}
 -- a second reading does what the first found
 pub again : {A X : Type 0} {done : A → X → Type 0} {kept : Type 0} {r : Answered (Part X) Failure} {g : Got A} (t : A) (n : ℕ) → g ≡ got t n → Reads done kept r g → (x : X) × done t x
 again {done = done} t n e (Reads.read {t = u} {x} q p d) = let same : u ≡ t = cc in (x, subst (λ y. done y x) same d)
-again t n e (Reads.fails q p w) = absurd (never e q)
+again t n e (Reads.fails q p w) = absurd (never e q.0)
 
 -- a table with room for 512 names
 pub on_table : (source table : List ℕ) → table_words ≤ length table → program_on source table ≡ program_in source
@@ -64,7 +64,7 @@ module _ (source : List ℕ) (short : length source ≤ 8192) where
       → Reads done kept r (program_on source (take table_words scratch)) → r ≡ Err f → Answers (compile_def source) image (failed_with (number_of f.cause) f.at) (lent ++ image)
   unfolding result_of answer_of image_after
   failed_reading {f = f} [] image scratch h room r p =
-      let e : compile_def source ≡ Result.failed (number_of f.cause) f.at = result ∙ ap result_of (sym (on_scratch source scratch room) ∙ failed_as r p) in (rw e, rw e)
+      let e : compile_def source ≡ Result.failed (number_of f.cause) f.at = result ∙ ap result_of (sym (on_scratch source scratch room) ∙ (failed_as r p).0) in (rw e, rw e)
   failed_reading (x ∷ xs) image scratch h room r p = absurd (omega arith)
 
   module _ (p : Program) (n : ℕ) (is : program_in source ≡ got p n) where

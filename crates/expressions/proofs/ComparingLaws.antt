@@ -23,7 +23,7 @@ use Rattle.grammar.specs.Cells.{parse_lone_cell}
 use Rattle.grammar.specs.Expressions.{cond_from, parse_cond}
 use Rattle.parser.specs.declared.Part.{Part}
 use Rattle.parser.specs.declared.Failure.{Failure}
-use Rattle.parser.specs.Failures.{number_of}
+use Rattle.parser.specs.Failures.{number_of, cause_of}
 use Rattle.emitter.specs.declared.Output.{Output}
 use Rattle.emitter.specs.Emitted.{emitted_by}
 use Rattle.expressions.specs.declared.Guarded.{Guarded}
@@ -34,7 +34,7 @@ use Rattle.expressions.specs.Vocabulary.{looked_up, stands_in}
 use Rattle.expressions.specs.Chains.{Comparison, cond_of, comparison_of, relation_words, comparison_words}
 use Rattle.expressions.specs.Compiles.{Compiles, Tests, Compares, AlwaysForwardJump, Related}
 use Rattle.expressions.proofs.VocabularyLaws.{as_row, as_some, as_none, standing, as_standing, not_standing}
-use Rattle.parser.proofs.Answers.{then_got, then_failed}
+use Rattle.parser.proofs.Answers.{onward, then_got, then_failed}
 use Rattle.parser.specs.Reads.Reads.{read, fails}
 use Rattle.parser.proofs.ReadLaws.{came, pass, reads_on}
 
@@ -65,10 +65,10 @@ module _ (source : List ℕ) (names : Names) (at : ℕ) (t : Token) (e : t ≡ t
         read (ap (comparison_of source names) (sym e) ∙ (not_standing relations t _ _ related no ∙ as_some tests test_slot t _ _ r)) refl
         (same_forward (λ at z. ap (λ x. Sym.generic x ∷ Sym.jump z ∷ []) r.is) (k.forward f))
 
-    pub no_comparison : {x : Failure} → s ≡ None → number_of x.cause ≡ failure_at t 6 → x.at ≡ t.at → Tests f comparison_words a a.image (Err x) (comparison_of source names (token_at source at))
+    pub no_comparison : {x : Failure} → s ≡ None → number_of x.cause ≡ failure_at t 6 → x.cause ≡ cause_of (failure_at t 6) → x.at ≡ t.at → Tests f comparison_words a a.image (Err x) (comparison_of source names (token_at source at))
     unfolding comparison_of fail_at
-    no_comparison h n p =
-        fails (ap (comparison_of source names) (sym e) ∙ (not_standing relations t _ _ related no ∙ (as_none tests test_slot t _ _ tested h ∙ ap₂ (λ k i. failed k i) (sym n) (sym p)))) refl here
+    no_comparison h n c p =
+        fails (ap (comparison_of source names) (sym e) ∙ (not_standing relations t _ _ related no ∙ (as_none tests test_slot t _ _ tested h ∙ ap₂ (λ k i. failed k i) (sym n) (sym p))), c ∙ ap cause_of (sym n)) refl here
 
 -- ---- A condition
 
@@ -126,4 +126,4 @@ module _ (source : List ℕ) (names : Names) (expr : ℕ → Got Expr) (at : ℕ
         read (not_bare no ∙ then_got _ v.is ∙ cond_from_lem source names v.tree (token_at source p.next) ∙ then_got _ is) q (same_forward (cond_words_lem v.tree c) (after_words v.holds l))
     value_compared {p = p} i (fails is q w) =
         let v = came h i in
-        fails (not_bare no ∙ then_got _ v.is ∙ cond_from_lem source names v.tree (token_at source p.next) ∙ then_failed _ is) q (kept_image v.holds.kept w)
+        fails (onward is (λ s. not_bare no ∙ then_got _ v.is ∙ cond_from_lem source names v.tree (token_at source p.next) ∙ then_failed _ s)) q (kept_image v.holds.kept w)

@@ -43,7 +43,7 @@ use Rattle.expressions.specs.Compiles.{Compiles, Tests, Alternates, Always, Alwa
 use Rattle.expressions.proofs.Leaves as leaves
 use Rattle.expressions.proofs.UnaryLaws.{unaries_parsed}
 use Rattle.expressions.proofs.Branches.{branch_words, branches}
-use Rattle.parser.proofs.Answers.{gives_read, then_got, then_failed}
+use Rattle.parser.proofs.Answers.{gives_read, onward, then_got, then_failed}
 use Rattle.parser.proofs.ReadLaws.{then_then, came, failed_as, kept_as, pass, missing, reads_as}
 use Rattle.expressions.proofs.Compiles.{failing, as_tree}
 
@@ -132,7 +132,7 @@ module _ (source : List ℕ) (names : Names) (inner : ℕ → Got Expr) (at from
         read (then_got _ parsed ∙ then_got _ (gives_read tree_term_start g i) ∙ then_got _ v.is ∙ then_got _ is) e (same (chain_words (unaries_of source at) v.tree os) (sequence (sequence v.holds (u.lays f)) l))
     chained k u (fails is e w) =
         let v = came h k in
-        fails (then_got _ parsed ∙ then_got _ (gives_read tree_term_start g i) ∙ then_got _ v.is ∙ then_failed _ is) e (kept_image (kept_then v.holds.kept (u.lays f).kept) w)
+        fails (onward is (λ s. then_got _ parsed ∙ then_got _ (gives_read tree_term_start g i) ∙ then_got _ v.is ∙ then_failed _ s)) e (kept_image (kept_then v.holds.kept (u.lays f).kept) w)
 
 -- ---- Choices
 
@@ -184,7 +184,7 @@ module _ (source : List ℕ) (inner : ℕ → Got Expr) (at : ℕ) {f : Bases} {
   module _ {q : Part Token} (i : otherwise ≡ Ok q) {after : List ℕ} {r : Answer} (h : Compiles f expr_words a after r (inner q.next)) where
     pub second_failed : {place : ℕ} {e : Failure} → r ≡ Err e → Alternates f expr_words a after place r (else_expr source inner at)
     unfolding else_expr
-    second_failed k = fails (then_got _ (gives_read (λ t. t) g i) ∙ failed_as h k) k (kept_as h k)
+    second_failed k = fails (onward (failed_as h k) (λ s. then_got _ (gives_read (λ t. t) g i) ∙ s)) k (kept_as h k)
 
     pub second_read : {place : ℕ} {p : Part Output} {last : List ℕ} → r ≡ Ok p → last ≡ filled after place p.value.next → Alternates f expr_words a last place (Ok p) (else_expr source inner at)
     unfolding else_expr
@@ -225,7 +225,7 @@ module _ (source : List ℕ) (names : Names) (left at : ℕ) where
   too_deep e = rw e
 
 pub deep_failed : (source : List ℕ) (names : Names) (left at : ℕ) {f : Bases} {a : Emitted} {e : Failure} → left ≡ 0 → Fails e (expressions.too_deep_expr source names (token_at source at)) → Compiles f expr_words a a.image (Err e) (parse_expr source names left at)
-deep_failed source names left at z h = fails (too_deep source names left at z ∙ h) refl here
+deep_failed source names left at z h = fails (onward h (λ s. too_deep source names left at z ∙ s)) refl here
 
 sub_one : (n : ℕ) → suc n - 1 ≡ n
 sub_one n = omega arith

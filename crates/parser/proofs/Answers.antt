@@ -1,6 +1,6 @@
 -- What answers say of the definitions' results.
 use Prim.Native.Nat.{ℕ}
-use mathlib.Core.Path.{◌≡◌, refl, sym, ap, ◌∙◌}
+use mathlib.Core.Path.{subst, ◌≡◌, refl, sym, ap, ◌∙◌}
 use mathlib.Core.Bool.{Bool, true, false}
 use native.Mathlib.Omega.{arith}
 use Rattle.std.specs.Prelude.{Result, Ok, Err}
@@ -44,7 +44,11 @@ module _ {A X : Type 0} (view : X → A) {g : Got A} where
 
   pub gives_failed : {r : Result (Part X) Failure} {e : Failure} → Gives view r g → r ≡ Err e → Fails e g
   gives_failed {r = Ok q} h i = absurd (let z : ◌≡◌ {A = ℕ} 0 1 = cc in omega arith)
-  gives_failed {r = Err q} {e} h i = let s : q ≡ e = cc in h ∙ ap (λ x. Got.failed (number_of x.cause) x.at) s
+  gives_failed {r = Err q} {e} h i = let s : q ≡ e = cc in subst (λ (x : Failure). Fails x g) s h
+
+-- a failure of one result is another's, where that fails by what it fails by
+pub onward : {A B : Type 0} {e : Failure} {g : Got A} {g' : Got B} → Fails e g → (g ≡ Got.failed (number_of e.cause) e.at → g' ≡ Got.failed (number_of e.cause) e.at) → Fails e g'
+onward h f = (f h.0, h.1)
 
 -- ---- Failures at a token
 

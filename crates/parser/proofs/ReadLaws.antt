@@ -14,10 +14,10 @@ use Rattle.grammar.specs.Parse.{Got, and_then, repeat_by, repeat, more_separated
 use Rattle.grammar.specs.Parse.Got.{got, failed}
 use Rattle.parser.specs.declared.Part.{Part}
 use Rattle.parser.specs.declared.Failure.{Failure}
-use Rattle.parser.specs.Failures.{number_of, Fails}
+use Rattle.parser.specs.Failures.{Fails}
 use Rattle.parser.specs.Reads.{Gives, Reads}
 use Rattle.parser.specs.Reads.Reads.{read, fails}
-use Rattle.parser.proofs.Answers.{Came, gives_failed, then_got, then_failed}
+use Rattle.parser.proofs.Answers.{Came, gives_failed, onward, then_got, then_failed}
 
 -- ---- Results
 
@@ -41,7 +41,7 @@ module _ {A X : Type 0} {done : A → X → Type 0} {kept : Type 0} {r : Result 
 
   pub failed_as : {e : Failure} → Reads done kept r g → r ≡ Err e → Fails e g
   failed_as (read i h d) e = absurd (let z : ◌≡◌ {A = ℕ} 0 1 = cc in omega arith)
-  failed_as {e} (fails {e = f} i h w) j = let q : f ≡ e = cc in i ∙ ap (λ (x : Failure). failed (number_of x.cause) x.at) q
+  failed_as {e} (fails {e = f} i h w) j = let q : f ≡ e = cc in subst (λ (x : Failure). Fails x g) q i
 
   pub kept_as : {e : Failure} → Reads done kept r g → r ≡ Err e → kept
   kept_as (read i h d) e = absurd (let z : ◌≡◌ {A = ℕ} 0 1 = cc in omega arith)
@@ -50,17 +50,17 @@ module _ {A X : Type 0} {done : A → X → Type 0} {kept : Type 0} {r : Result 
   -- a failure is passed upward, whatever the answer would have held
   pub pass : {B Y : Type 0} {done' : B → Y → Type 0} {kept' : Type 0} {g' : Got B} (rest : A → ℕ → Got B) {e : Failure} → Reads done kept r g → r ≡ Err e → g' ≡ and_then g rest → (kept → kept')
       → Reads done' kept' (Err e) g'
-  pass rest h i q w = fails (q ∙ then_failed rest (failed_as h i)) refl (w (kept_as h i))
+  pass rest h i q w = fails (onward (failed_as h i) (λ p. q ∙ then_failed rest p)) refl (w (kept_as h i))
 
   -- the same part, read as a tree of another definition
   pub reads_as : {B : Type 0} {done' : B → X → Type 0} {kept' : Type 0} {g' : Got B} (f : A → B) → Reads done kept r g → g' ≡ and_then g (λ x n. got (f x) n)
       → ((t : A) (x : X) → done t x → done' (f t) x) → (kept → kept') → Reads done' kept' r g'
   reads_as f (read {t} {x} i h d) q k w = read (q ∙ then_got _ i) h (k t x d)
-  reads_as f (fails i h v) q k w = fails (q ∙ then_failed _ i) h (w v)
+  reads_as f (fails i h v) q k w = fails (onward i (λ p. q ∙ then_failed _ p)) h (w v)
 
   pub reads_to : {done' : A → X → Type 0} {kept' : Type 0} {g' : Got A} → g' ≡ g → ((t : A) (x : X) → done t x → done' t x) → (kept → kept') → Reads done kept r g → Reads done' kept' r g'
   reads_to q k w (read {t} {x} i h d) = read (q ∙ i) h (k t x d)
-  reads_to q k w (fails i h v) = fails (q ∙ i) h (w v)
+  reads_to q k w (fails i h v) = fails (onward i (λ p. q ∙ p)) h (w v)
 
   pub reads_on : {g' : Got A} → g' ≡ g → Reads done kept r g → Reads done kept r g'
   reads_on q h = reads_to q (λ t x d. d) (λ w. w) h
@@ -68,7 +68,7 @@ module _ {A X : Type 0} {done : A → X → Type 0} {kept : Type 0} {r : Result 
 -- a token or part that is missing fails the whole
 pub missing : {A B X Y : Type 0} (view : X → A) {done : B → Y → Type 0} {kept : Type 0} {r : Result (Part X) Failure} {g' : Got B} (g : Got A) (rest : A → ℕ → Got B) {e : Failure} → Gives view r g → r ≡ Err e → g' ≡ and_then g rest → kept
     → Reads done kept (Err e) g'
-missing view g rest h i q w = fails (q ∙ then_failed rest (gives_failed view h i)) refl w
+missing view g rest h i q w = fails (onward (gives_failed view h i) (λ p. q ∙ then_failed rest p)) refl w
 
 -- ---- Parts in turn
 
@@ -150,7 +150,7 @@ module _ {A B X : Type 0} {source : List ℕ} {separator : ℕ} {more : B → �
 pub list_end : {A B X : Type 0} {source : List ℕ} {separator : ℕ} {more : B → ℕ → Got A} {sofar : A → B} {w : Got A} {held : B → Type 0} {held' : A → X → Type 0} {kept : Type 0} {from left : ℕ}
     (l : Sequel source separator more sofar w held from left) {r : Result (Part X) Failure} → Reads held' kept r (more l.done from) → left ≡ 0 → Reads held' kept r w
 list_end {source = source} {separator} {more} {sofar} l (read {t} {n = n} i q d) z = read (l.same ∙ then_got _ i ∙ repeat_zero (more_separated source separator (λ a. more (sofar a))) t n z) q d
-list_end l (fails i q k) z = fails (l.same ∙ then_failed _ i) q k
+list_end l (fails i q k) z = fails (onward i (λ p. l.same ∙ then_failed _ p)) q k
 
 pub list_next : {A X : Type 0} {source : List ℕ} {separator : ℕ} {more : A → ℕ → Got A} {w : Got A} {held : A → Type 0} {held' : A → X → Type 0} {kept : Type 0} {from left : ℕ} (l : Listing source separator more w held from left)
     {r : Result (Part X) Failure} → Reads held' kept r (more l.done from) → {p : Part X} → r ≡ Ok p → {t : Token} → t ≡ token_at source p.next → (left ≡ 0 → ⊥) → kind_number t.kind ≡ separator

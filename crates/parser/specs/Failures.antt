@@ -44,6 +44,6 @@ cause_of n =
     whether (eqb n 14) (λ _. TooManyValues) λ _.
     Other n
 
--- a failure is the one that parsing ends in
+-- a failure is the one that parsing ends in: with its number and offset, and of the causes with that number the number's own, so that nothing of it is free
 abbrev pub Fails : {A : Type 0} → Failure → Got A → Type 0
-Fails e g = g ≡ failed (number_of e.cause) e.at
+Fails e g = (g ≡ failed (number_of e.cause) e.at) × (e.cause ≡ cause_of (number_of e.cause))

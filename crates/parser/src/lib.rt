@@ -124,13 +124,16 @@ fn cause_at(t: Token, cause: Cause) -> Cause
     }
 }
 
-/// A failure at a token: by the lowest number (J3), at its first byte (J4).
+/// A failure at a token: by the lowest number (J3), at its first byte (J4). Its cause is the number's own: 6 is `NotAllowed`, and never `Other(6)`.
+#[tactic(auto, using(crate::proofs::Answers::numbered))]
 pub fn fail_at(t: Token, cause: Cause) -> Failure
     ensures number { number_of result.cause ≡ failure_at t (number_of cause) }
+    ensures cause { result.cause ≡ cause_of (failure_at t (number_of cause)) }
     ensures at { result.at ≡ t.at }
 {
+    let lowest = cause_at(t, cause);
     Failure {
-        cause: cause_at(t, cause),
+        cause: Cause::from(lowest.number()),
         at: t.at,
     }
 }

@@ -188,7 +188,7 @@ module _ (source table : List ℕ) {plan : SectorEnds} {image image' table' : Li
       }
 
   pub no_program : {f : Failure} → r ≡ Err f → (p : Program) (n : ℕ) → program_in source ≡ got p n → ⊥
-  no_program q p n e = never (on_table source table room ∙ e) (failed_as h q)
+  no_program q p n e = never (on_table source table room ∙ e) (failed_as h q).0
 
 -- ---- The names as declarations
 

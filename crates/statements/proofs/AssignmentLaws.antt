@@ -59,14 +59,15 @@ module _ {A B X : Type 0} {done : A → X → Type 0} {done' : B → X → Type 
       let e : t ≡ x = cc in
       let q : m ≡ n = cc in
       read (ap (got y) (sym q)) p (k v (subst (λ z. done z v) e l))
-  relabel x y k (fails i p w) = absurd (let z : ◌≡◌ {A = ℕ} 0 1 = cc in omega arith)
+  relabel x y k (fails i p w) = absurd (let s = i.0 in let z : ◌≡◌ {A = ℕ} 0 1 = cc in omega arith)
 
   refail : {k o : ℕ} → Reads done kept r (failed k o) → Reads done' kept r (failed k o)
   refail (read i p l) = absurd (let z : ◌≡◌ {A = ℕ} 0 1 = cc in omega arith)
   refail {k} {o} (fails {e} i p w) =
+      let s = i.0 in
       let n : k ≡ number_of e.cause = cc in
       let m : o ≡ e.at = cc in
-      fails (ap₂ (λ x y. failed x y) n m) p w
+      fails (ap₂ (λ x y. failed x y) n m, i.1) p w
 
 -- a call has the same words as a statement and as a term
 module _ {f : Bases} {a : Emitted} {after : List ℕ} {r : Result (Part Output) Failure} (source : List ℕ) (names : Names) (expr : ℕ → Got Expr) (p at : ℕ) where

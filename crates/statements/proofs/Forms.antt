@@ -12,7 +12,7 @@ use Rattle.emitter.specs.declared.Output.{Output}
 use Rattle.emitter.specs.Emitted.{emitted_by}
 use Rattle.parser.specs.Reads.{Reads}
 use Rattle.parser.specs.Reads.Reads.{read, fails}
-use Rattle.parser.proofs.Answers.{then_got, then_failed}
+use Rattle.parser.proofs.Answers.{then_got, then_failed, onward}
 use Rattle.parser.proofs.ReadLaws.{then_then, came, failed_as, kept_as, reads_as}
 use Rattle.layout.specs.Emission.{Emitted, Bases, emit_all}
 use Rattle.emitter.specs.Lays.{WordsAt, Lays}
@@ -36,8 +36,8 @@ follow {done = done} {r = Ok p} {r' = Ok q} source kind h e k w =
     read (then_got _ c.is ∙ then_got _ e.2) refl (subst (λ x. done c.tree x) (sym e.0) c.holds)
 follow {r = Ok p} {r' = Err f} source kind h e k w =
     let c = came h refl in
-    fails (then_got _ c.is ∙ then_failed _ e) refl (k c.tree p.value c.holds)
-follow {r = Err f} source kind h e k w = fails (then_failed _ (failed_as h refl)) e (w (kept_as h refl))
+    fails (onward e (λ s. then_got _ c.is ∙ then_failed _ s)) refl (k c.tree p.value c.holds)
+follow {r = Err f} source kind h e k w = fails (onward (failed_as h refl) (then_failed _)) e (w (kept_as h refl))
 
 -- where the first part was read, the definition is the rest
 pub from_got : {A B X : Type 0} {done : B → X → Type 0} {kept : Type 0} {r : Result (Part X) Failure} {g : Got A} {t : A} {n : ℕ} (rest : A → ℕ → Got B)

@@ -12,8 +12,9 @@ use Rattle.layout.specs.Words.{target_cell, stmt_words}
 use Rattle.grammar.specs.Statements.{parse_when, parse_while, stmt_from}
 use Rattle.symbols.specs.Trees.{tree_operand, tree_cell}
 use Rattle.cells.specs.Answers.{tree_statement_start}
+use Rattle.parser.specs.Failures.{cause_of}
 use Rattle.parser.specs.Reads.Reads.{read, fails}
-use Rattle.parser.proofs.Answers.{then_got, gives_read, gives_failed}
+use Rattle.parser.proofs.Answers.{then_got, gives_read, gives_failed, onward}
 use Rattle.parser.proofs.ReadLaws.{came, pass, reads_on, list_failed, list_last, list_end, sequel_next}
 use Rattle.layout.specs.Emission.{emit_all}
 use Rattle.emitter.proofs.Lays.{kept_image, here, of_kept, nothing}
@@ -149,11 +150,11 @@ statement-returns-then-ends_statement t c = read (stmt_empty _ _ _ _ c.token_at-
 
 pub statement-returns-in_default : goal.statement-returns-in_default
 statement-returns-in_default t c =
-    fails (stmt_unknown _ _ _ _ c.token_at-t.ensures (sym c.ends_statement.ensures ∙ c.if-ends_statement.false) _ (gives_failed tree_statement_start c.statement_start_at-found.ensures c.unwrap_err.ensures)) refl here
+    fails (onward (gives_failed tree_statement_start c.statement_start_at-found.ensures c.unwrap_err.ensures) (stmt_unknown _ _ _ _ c.token_at-t.ensures (sym c.ends_statement.ensures ∙ c.if-ends_statement.false) _)) refl here
 
 pub statement-returns-then-left-eq0 : goal.statement-returns-then-left-eq0
 statement-returns-then-left-eq0 t c =
-    fails (stmt_deep _ _ _ _ c.token_at-t.ensures (sym c.ends_statement.ensures ∙ c.if-ends_statement.false) (gives_read tree_statement_start c.statement_start_at-found.ensures c.in-Ok.is) _ c.if-left-eq0.true ∙ ap₂ (λ x y. failed x y) (sym c.fail_at.ensures.number) (sym c.fail_at.ensures.at)) refl here
+    fails (stmt_deep _ _ _ _ c.token_at-t.ensures (sym c.ends_statement.ensures ∙ c.if-ends_statement.false) (gives_read tree_statement_start c.statement_start_at-found.ensures c.in-Ok.is) _ c.if-left-eq0.true ∙ ap₂ (λ x y. failed x y) (sym c.fail_at.ensures.number) (sym c.fail_at.ensures.at), c.fail_at.ensures.cause ∙ ap cause_of (sym c.fail_at.ensures.number)) refl here
 
 pub statement-returns : goal.statement-returns
 statement-returns t c =

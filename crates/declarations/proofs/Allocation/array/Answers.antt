@@ -4,14 +4,14 @@ use Rattle.parser.specs.Reads.Reads.{read, fails}
 use Rattle.symbols.specs.Trees.{tree_symbol}
 use Rattle.declarations.specs.Allocations.{allocation_of}
 use Rattle.declarations.specs.Clauses.{tree_head}
-use Rattle.parser.proofs.Answers.{gives_read, gives_failed}
+use Rattle.parser.proofs.Answers.{gives_read, gives_failed, onward}
 use Rattle.parser.proofs.ReadLaws.{came, failed_as}
 use Rattle.declarations.proofs.NameLaws.{held_length}
 use Rattle.declarations.proofs.ArrayLaws.{head_room, array_head_lem, array_values, array_on, array_declared}
 use Rattle.declarations.proofs.Allocation.array.Goals as goal
 
 pub returns-in_default : goal.returns-in_default
-returns-in_default c = fails (array_head_lem _ _ _ _ (gives_failed tree_head c.array_head-head.ensures c.unwrap_err.ensures)) refl tt
+returns-in_default c = fails (onward (gives_failed tree_head c.array_head-head.ensures c.unwrap_err.ensures) (array_head_lem _ _ _ _)) refl tt
 
 pub array_words-filled-requires : goal.array_words-filled-requires
 array_words-filled-requires c =
@@ -20,7 +20,7 @@ array_words-filled-requires c =
 
 pub returns-in_default-filled : goal.returns-in_default-filled
 returns-in_default-filled c = let head = gives_read tree_head c.array_head-head.ensures c.in-Ok.is in
-    fails (array_values _ _ _ _ head (failed_as c.array_words-filled.ensures c.unwrap_err-in_default-filled.ensures)) refl tt
+    fails (onward (failed_as c.array_words-filled.ensures c.unwrap_err-in_default-filled.ensures) (array_values _ _ _ _ head)) refl tt
 
 pub overflow_sub-self : goal.overflow_sub-self
 overflow_sub-self c =

@@ -2,14 +2,14 @@ use mathlib.Core.Path.{refl, ◌∙◌}
 use mathlib.Core.List.{[]}
 use Rattle.layout.specs.Limits.{sector_limit}
 use Rattle.parser.specs.Reads.Reads.{read, fails}
-use Rattle.parser.proofs.Answers.{then_got, then_failed, gives_read, gives_failed}
+use Rattle.parser.proofs.Answers.{then_got, then_failed, gives_read, gives_failed, onward}
 use Rattle.declarations.specs.Allocations.{allocation_of}
 use Rattle.declarations.proofs.LimitLaws.{follow_fits, next_limited, not_passed}
 use Rattle.declarations.proofs.SectorLaws.{ends_length}
 use Rattle.declarations.proofs.Allocation.next_sector.Goals as goal
 
 pub returns-in_default : goal.returns-in_default
-returns-in_default c = fails (next_limited _ (allocation_of c.args.self []) _ ∙ then_failed _ (gives_failed (λ t. t) (c.limit_then_expect-ended.ensures _ c.next_limit.ensures) c.unwrap_err.ensures)) refl tt
+returns-in_default c = fails (onward (gives_failed (λ t. t) (c.limit_then_expect-ended.ensures _ c.next_limit.ensures) c.unwrap_err.ensures) (λ e. next_limited _ (allocation_of c.args.self []) _ ∙ then_failed _ e)) refl tt
 
 pub close-requires : goal.close-requires
 close-requires c =

@@ -1,18 +1,18 @@
 use mathlib.Core.Path.{refl, ◌∙◌}
 use Rattle.parser.specs.Reads.Reads.{read, fails}
 use Rattle.grammar.specs.Declarations.{parse_list}
-use Rattle.parser.proofs.Answers.{then_got, then_failed, gives_read, gives_failed}
+use Rattle.parser.proofs.Answers.{then_got, then_failed, gives_read, gives_failed, onward}
 use Rattle.parser.proofs.ReadLaws.{came, failed_as}
 use Rattle.declarations.proofs.Scope.items.Goals as goal
 
 pub returns-in_default : goal.returns-in_default
 unfolding parse_list
-returns-in_default c = fails (then_failed _ (failed_as c.item_list-list.ensures c.in_default.is)) c.in_default.is tt
+returns-in_default c = fails (onward (failed_as c.item_list-list.ensures c.in_default.is) (then_failed _)) c.in_default.is tt
 
 pub returns-in_default-end : goal.returns-in_default-end
 unfolding parse_list
 returns-in_default-end c = let r = came c.item_list-list.ensures c.in-Ok.is in
-    fails (then_got _ r.is ∙ then_failed _ (gives_failed (λ t. t) c.expect-end.ensures c.unwrap_err.ensures)) refl tt
+    fails (onward (gives_failed (λ t. t) c.expect-end.ensures c.unwrap_err.ensures) (λ e. then_got _ r.is ∙ then_failed _ e)) refl tt
 
 pub returns : goal.returns
 unfolding parse_list

@@ -5,13 +5,13 @@ use Rattle.symbols.specs.Packing.{unpack}
 use Rattle.symbols.specs.Trees.{tree_symbol}
 use Rattle.declarations.specs.Allocations.{allocation_of}
 use Rattle.declarations.proofs.NameLaws.{held_length}
-use Rattle.parser.proofs.Answers.{then_got, then_failed, gives_read, gives_failed}
+use Rattle.parser.proofs.Answers.{then_got, then_failed, gives_read, gives_failed, onward}
 use Rattle.parser.proofs.ReadLaws.{came, failed_as}
 use Rattle.declarations.proofs.ProcedureLaws.{heading_room, procedure_heading, procedure_body, procedure_ended, procedure_limit, procedure_declared, ended_zero}
 use Rattle.declarations.proofs.procedures.procedure.Goals as goal
 
 pub returns-in_default : goal.returns-in_default
-returns-in_default c = fails (procedure_heading _ _ _ _ (gives_failed unpack c.heading-named.ensures c.unwrap_err.ensures)) refl tt
+returns-in_default c = fails (onward (gives_failed unpack c.heading-named.ensures c.unwrap_err.ensures) (procedure_heading _ _ _ _)) refl tt
 
 pub body-inside-requires : goal.body-inside-requires
 body-inside-requires c = let h = c.requires.0 in
@@ -23,13 +23,13 @@ body-inside-requires c = let h = c.requires.0 in
 
 pub returns-in_default-inside : goal.returns-in_default-inside
 returns-in_default-inside c = let head = gives_read unpack c.heading-named.ensures c.in-Ok.is in
-    fails (procedure_body _ _ _ _ head (failed_as c.body-inside.ensures c.unwrap_err-in_default-inside.ensures)) refl tt
+    fails (onward (failed_as c.body-inside.ensures c.unwrap_err-in_default-inside.ensures) (procedure_body _ _ _ _ head)) refl tt
 
 pub returns-in_default-ended : goal.returns-in_default-ended
 returns-in_default-ended c = let h = c.requires.0 in
     let head = gives_read unpack c.heading-named.ensures c.in-Ok.is in
     let r = came c.body-inside.ensures c.in-Ok-inside.is in
-    fails (procedure_ended _ _ _ _ head r.is _ (procedure_limit c.args.accumulator h r.holds) ∙ then_failed _ (gives_failed (λ t. t) c.end_then_expect-ended.ensures c.unwrap_err-in_default-ended.ensures)) refl tt
+    fails (onward (gives_failed (λ t. t) c.end_then_expect-ended.ensures c.unwrap_err-in_default-ended.ensures) (λ e. procedure_ended _ _ _ _ head r.is _ (procedure_limit c.args.accumulator h r.holds) ∙ then_failed _ e)) refl tt
 
 pub returns : goal.returns
 unfolding tree_symbol

@@ -4,6 +4,7 @@ use mathlib.Core.Bool.{true, false}
 use lib.Dec.{leb}
 use native.Mathlib.Omega.{arith}
 use borrow.Author.Tests.{le-leb, lt-leb}
+use Rattle.parser.specs.Failures.{cause_of}
 use Rattle.parser.specs.Reads.Reads.{fails}
 use Rattle.parser.proofs.ReadLaws.{reads_on}
 use Rattle.declarations.specs.Scopes.{table_words}
@@ -19,8 +20,8 @@ room {n} h l = le-leb table_words n (omega (arith, h, l))
 
 -- A short table is refused; else it is the program, and no call changes a length.
 pub returns-then-table-lt-TABLE_WORDS : goal.returns-then-table-lt-TABLE_WORDS
-unfolding program_on
-returns-then-table-lt-TABLE_WORDS c = (fails (rw (short c.if-table-lt-TABLE_WORDS.true (omega arith)) refl) refl tt, record { table_kept = refl; image_kept = refl })
+unfolding program_on cause_of
+returns-then-table-lt-TABLE_WORDS c = (fails (rw (short c.if-table-lt-TABLE_WORDS.true (omega arith)) refl, refl) refl tt, record { table_kept = refl; image_kept = refl })
 
 pub returns : goal.returns
 unfolding program_on

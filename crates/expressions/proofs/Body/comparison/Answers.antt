@@ -8,4 +8,4 @@ pub returns-in-Some : goal.returns-in-Some
 returns-in-Some c = test_read _ _ _ _ c.token_at-t.ensures c.is_relation.ensures c.if-is_relation.false c.test.ensures c.in-Some.is c.emit_test.ensures
 
 pub returns : goal.returns
-returns c = no_comparison _ _ _ _ c.token_at-t.ensures c.is_relation.ensures c.if-is_relation.false c.test.ensures c.in_default.is c.fail_at.ensures.number c.fail_at.ensures.at
+returns c = no_comparison _ _ _ _ c.token_at-t.ensures c.is_relation.ensures c.if-is_relation.false c.test.ensures c.in_default.is c.fail_at.ensures.number c.fail_at.ensures.cause c.fail_at.ensures.at

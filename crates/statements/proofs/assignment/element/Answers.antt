@@ -3,7 +3,7 @@ use Rattle.grammar.specs.Statements.{parse_element}
 use Rattle.layout.specs.Words.{target_cell}
 use Rattle.symbols.specs.Trees.{tree_subscript, tree_cell}
 use Rattle.parser.specs.Reads.Reads.{fails}
-use Rattle.parser.proofs.Answers.{then_failed, gives_read, gives_failed}
+use Rattle.parser.proofs.Answers.{then_failed, gives_read, gives_failed, onward}
 use Rattle.emitter.proofs.Lays.{here}
 use Rattle.statements.proofs.Forms.{from_got}
 use Rattle.statements.proofs.AssignmentLaws.{stored_as}
@@ -11,7 +11,7 @@ use Rattle.statements.proofs.assignment.element.Goals as goal
 
 pub returns-in_default : goal.returns-in_default
 unfolding parse_element
-returns-in_default c = fails (then_failed _ (gives_failed tree_subscript c.subscript_at-found.ensures c.unwrap_err.ensures)) refl here
+returns-in_default c = fails (onward (gives_failed tree_subscript c.subscript_at-found.ensures c.unwrap_err.ensures) (then_failed _)) refl here
 
 pub returns : goal.returns
 unfolding parse_element tree_cell target_cell

@@ -4,7 +4,7 @@ use mathlib.Core.Path.{refl, ◌∙◌}
 use Rattle.symbols.specs.Trees.{tree_id, tree_operand, tree_cell}
 use Rattle.statements.specs.Forms.{counter_of, head_words}
 use Rattle.parser.specs.Reads.Reads.{read, fails}
-use Rattle.parser.proofs.Answers.{then_got}
+use Rattle.parser.proofs.Answers.{onward, then_got}
 use Rattle.parser.proofs.ReadLaws.{came, pass}
 use Rattle.emitter.proofs.Lays.{here}
 use Rattle.statements.proofs.CountingLaws.{head_hash, head_integer, head_refused, no_head}
@@ -22,7 +22,7 @@ returns-then-eq c =
 
 pub returns-in_default-symbol : goal.returns-in_default-symbol
 returns-in_default-symbol c =
-    fails (no_head _ (head_refused _ _ _ _ _ c.token_at-t.ensures _ (other_kinds _ Kind.Hash c.eq.ensures c.if-eq.false) c.lookup_at-symbol.ensures (opened c.in_default-symbol.in_default-symbol-own.keys2)) c.refuse_at.ensures) refl here
+    fails (onward c.refuse_at.ensures (no_head _ (head_refused _ _ _ _ _ c.token_at-t.ensures _ (other_kinds _ Kind.Hash c.eq.ensures c.if-eq.false) c.lookup_at-symbol.ensures (opened c.in_default-symbol.in_default-symbol-own.keys2)))) refl here
 
 pub returns-in_default-read : goal.returns-in_default-read
 returns-in_default-read c =
