@@ -2,9 +2,14 @@
 // The litres, and the total of the first page, are taken from the machine's memory; the collection page adds up its own totals.
 #![tactic(auto)]
 
+ghost use Rattle.std.specs.Prelude.{◌≡◌, Some};
+ghost use Rattle.failure_report.specs.Failure.{words_of};
+ghost use Rattle.farm.specs.Words.{FailuresInWords};
+
 use compiler::SCRATCH_WORDS;
 use effect::Switches;
 use machine::Outcome;
+use std::fmt;
 use turns::{run_turns, start};
 
 // LITRES[-3], the lowest word of the first array (A5); TOTAL, the second global (A3).
@@ -48,9 +53,18 @@ fn print_line(rt: &impl Print, image: &[u16; 16384]) {
     );
 }
 
-fn print_failure(rt: &impl Print, failure: page::Failure) {
-    let number = failure.number();
-    let _ = println!(rt; "The page failed with {number}: {failure}");
+// The words are those that the table of all failures has for the number (O3).
+fn print_in_words<D: fmt::Display>(rt: &impl Print, number: u16, words: &D)
+    requires { D.output words.now ≡ Some (words_of number) }
+{
+    let _ = println!(rt; "The page failed with {number}: {words}");
+}
+
+// This function carries the theorem on a page's failures as its contract.
+fn print_failure(rt: &impl Print, failure: page::Failure)
+    ensures { FailuresInWords }
+{
+    print_in_words(rt, failure.number(), &failure);
 }
 
 // The collection page of the same farms.

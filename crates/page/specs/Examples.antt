@@ -8,6 +8,9 @@ use Rattle.digits.specs.Digits.{decimal_by, left_in, right_in, digits_from, show
 use Rattle.page.specs.Names.{Name, names_of, good_name}
 use Rattle.page.specs.Page.{farm_line, lines_from, page_of, first_failure, failure_of, answer_of, output_after}
 use Rattle.page.specs.PageLaws.{name_shown, litres_shown, total_shown}
+use Rattle.page.specs.Failures.{number_of, words_of}
+use Rattle.page.specs.declared.failure.Failure.{Failure}
+use Rattle.page.specs.declared.failure.Failure.TheVariants.{BadLitres, BadName, BadLists}
 
 -- ---- The page of three farms (B1 to B3)
 
@@ -112,6 +115,22 @@ cases =
 every_case : map answered cases ≡ map (λ c. c.3) cases
 unfolding answer_of failure_of first_failure names_of lines_from farm_line left_in right_in decimal_by all answered
 every_case = refl
+
+-- ---- The failures, by number and in words (F24 to F26, O3)
+
+abbrev failures : List Failure
+failures = BadLitres ∷ BadName ∷ BadLists ∷ []
+
+numbers : map number_of failures ≡ 24 ∷ 25 ∷ 26 ∷ []
+numbers = refl
+
+words :
+    map words_of failures
+    ≡ bytes "more than 32,767 litres"
+    ∷ bytes "a farm's name is empty, without a newline, over 14 bytes, or has bytes outside 32 to 126"
+    ∷ bytes "output too short, more than 1,000 farms, or not as many names as litres"
+    ∷ []
+words = refl
 
 -- ---- Behind the thousandth farm (F26, J14)
 

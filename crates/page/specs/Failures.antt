@@ -14,7 +14,7 @@ abbrev pub numbered : {A : Type 0} → Result A Failure → Result A ℕ
 numbered (Ok a) = Ok a
 numbered (Err f) = Err (number_of f)
 
--- as `failure_report` has them
+-- as the table of all failures has them (O3)
 abbrev pub words_of : Failure → List ℕ
 words_of BadLitres = codes "more than 32,767 litres"
 words_of BadName = codes "a farm's name is empty, without a newline, over 14 bytes, or has bytes outside 32 to 126"

@@ -1,7 +1,7 @@
 -- What the code's functions hand to each other; no rule rests on it.
-use Rattle.std.specs.Prelude.{Result, Ok, Err, Option, Some, None, Bool, ℕ, zero, suc, ◌*◌, ◌≤◌, ◌≡◌, List, [], ◌∷◌, true, ◌&&◌, eqb, leb, ltb, length}
+use Rattle.std.specs.Prelude.{Result, Ok, Err, Option, Some, None, Bool, ℕ, zero, suc, ◌*◌, ◌≤◌, ◌≡◌, List, [], ◌∷◌, true, not, ◌&&◌, eqb, leb, ltb, length}
 use Rattle.prelude.specs.Choice.{whether}
-use Rattle.page.specs.Names.{Name, good_name}
+use Rattle.page.specs.Names.{Name, is_printable, good_name}
 
 -- the length of the first name, or 0 if it is not as it should be
 abbrev pub length_of : List Name → ℕ
@@ -10,6 +10,10 @@ length_of (n ∷ ns) = whether (good_name n) (λ _. length n.text) (λ _. 0)
 
 abbrev pub is_newline : ℕ → Bool
 is_newline b = eqb b 10
+
+-- whether no name may have a byte; a newline is one of these
+abbrev pub is_other : ℕ → Bool
+is_other b = not (is_printable b)
 
 -- a length, if there is one: no good name has 0 bytes
 abbrev pub sized : ℕ → Option ℕ

@@ -2,14 +2,14 @@
 #![tactic(auto)]
 
 ghost use Rattle.std.specs.Prelude.{◌≡◌, ◌+◌, ◌≤◌, length, drop};
-ghost use Rattle.std.specs.List.{position, list_all};
+ghost use Rattle.std.specs.List.{position};
 ghost use Rattle.text.specs.Adds.{Adds};
 ghost use Rattle.page.specs.Names as spec;
 ghost use Rattle.page.specs.Names.{names_of};
 ghost use Rattle.page.specs.Failures.{numbered};
 ghost use Rattle.page.specs.Page.{farm_line, page_of, answer_of, PageCalled};
 ghost use Rattle.page.specs.PageLaws.{PageLaws};
-ghost use Rattle.page.specs.Readings.{is_newline, length_of, sized, farm_of, fitted_of, Sound};
+ghost use Rattle.page.specs.Readings.{is_other, length_of, sized, farm_of, fitted_of, Sound};
 
 use text::Text;
 
@@ -32,35 +32,28 @@ fn is_printable(byte: u8) -> bool
     32 <= byte && byte <= 126
 }
 
-fn newline(text: &[u8]) -> Option<usize>
-    ensures { result ≡ position is_newline text.now }
+// Where the first byte is that no name may have.
+fn first_other(text: &[u8]) -> Option<usize>
+    ensures { result ≡ position is_other text.now }
 {
-    text.iter().position(|b| *b == b'\n')
+    text.iter().position(|b| !is_printable(*b))
 }
 
-fn all_printable(text: &[u8]) -> bool
-    ensures { result ≡ list_all spec.is_printable text.now }
-{
-    text.iter().all(|b| is_printable(*b))
-}
-
-// The length of the first name, if it is as it should be (F25).
-#[tactic(auto, using(crate::proofs::NameLaws::for_first_length))]
+// The length of the first name, if it is as it should be (F25). Nothing is read behind the first byte that no name may have.
 fn first_length(names: &[u8]) -> Option<usize>
     ensures { result ≡ sized (length_of (names_of names.now)) }
 {
-    let end = newline(names)?;
+    let end = first_other(names)?;
+    if names[end] != b'\n' {
+        return None;
+    }
     if end == 0 {
         return None;
     }
     if LONGEST_NAME < end {
         return None;
     }
-    if all_printable(&names[..end]) {
-        Some(end)
-    } else {
-        None
-    }
+    Some(end)
 }
 
 // The same of the name that begins at an offset.

@@ -1,0 +1,2 @@
+-- What is promised of the first program.
+pub mod Words
