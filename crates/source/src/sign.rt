@@ -6,7 +6,7 @@ use crate::Token;
 use crate::kind::Kind;
 
 // Those of two bytes stand first, since the longest is taken (T4); a byte that begins no sign carries a failure (T2, F4).
-// A match and no table of rows, since it is taken at each sign: it looks at one or two bytes.
+// A match and no scan of rows, for speed: it looks at two bytes at most.
 #[tactic(auto, using(crate::proofs::Signs::for_sign))]
 pub fn sign(bytes: &[u8], at: usize) -> Token
     requires { (0 < length bytes.now) × (at + length bytes.now < 2 ^ 64) }

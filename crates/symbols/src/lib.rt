@@ -224,7 +224,7 @@ fn data_of(symbol: Symbol) -> Data
     }
 }
 
-// Whether the entry at an offset has the name. The search asks this of row after row, and of most it reads the first word alone.
+// Whether the entry at an offset has the name. Word by word, for speed: the search asks it of row after row, and mostly the first word tells.
 #[tactic(auto, unfolding(crate::specs::Packing::same_packed))]
 fn is_named(table: &[u16], at: usize, name: Packed) -> bool
     requires { at + entry_words ≤ length table.now }

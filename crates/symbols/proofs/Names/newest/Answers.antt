@@ -9,5 +9,5 @@ pub returns-then-is_named : goal.returns-then-is_named
 unfolding nth_in
 returns-then-is_named c = record {
   inside = λ i e. let q : c.loop-i.i - 1 ≡ i = cc in rw (← q) (omega arith);
-  row = sym c.loop-i.invariant ∙ row_found _ _ _ c.loop-i-test.true (sym c.is_named.ensures ∙ c.if-is_named.true);
+  row = sym c.loop-i.invariant ∙ row_found _ _ c.loop-i.i (omega arith) (sym c.is_named.ensures ∙ c.if-is_named.true);
 }
