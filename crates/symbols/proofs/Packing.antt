@@ -206,4 +206,4 @@ packed_equal p q = go (nat_eq p.one q.one) (nat_eq p.two q.two) (nat_eq p.three 
 
 pub ruleset for_is_x = (x_packed, packed_equal)
 
-pub ruleset for_newest = (same_unpacked, packed_equal)
+pub ruleset for_newest = (same_unpacked)

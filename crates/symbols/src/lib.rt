@@ -224,6 +224,15 @@ fn data_of(symbol: Symbol) -> Data
     }
 }
 
+// Whether the entry at an offset has the name. Word by word, for speed: the search asks it of row after row, and mostly the first word tells.
+#[tactic(auto, unfolding(crate::specs::Packing::same_packed))]
+fn is_named(table: &[u16], at: usize, name: Packed) -> bool
+    requires { at + entry_words ≤ length table.now }
+    ensures { result ≡ same_packed name (packed_at table.now at) }
+{
+    name.one == table[at] && name.two == table[at + 1] && name.three == table[at + 2]
+}
+
 // The name of the entry at an offset.
 fn name_at(table: &[u16], at: usize) -> Packed
     requires { at + entry_words ≤ length table.now }
@@ -309,7 +318,7 @@ impl Names<'_> {
             return None;
         }
         for i in (0..self.count).rev() {
-            if name == name_at(self.words, ENTRY * i) {
+            if is_named(self.words, ENTRY * i, name) {
                 return Some(i);
             }
         }

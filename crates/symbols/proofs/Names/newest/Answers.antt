@@ -2,13 +2,12 @@ use mathlib.Core.Path.{◌≡◌, sym, ◌∙◌}
 use native.Mathlib.Omega.{arith}
 use Rattle.std.proofs.Common.{◌-◌}
 use Rattle.symbols.specs.Table.{nth_in}
-use Rattle.symbols.proofs.Packing.{packed_equal}
 use Rattle.symbols.proofs.Table.{row_found}
 use Rattle.symbols.proofs.Names.newest.Goals as goal
 
-pub returns-then-eq : goal.returns-then-eq
+pub returns-then-is_named : goal.returns-then-is_named
 unfolding nth_in
-returns-then-eq c = record {
+returns-then-is_named c = record {
   inside = λ i e. let q : c.loop-i.i - 1 ≡ i = cc in rw (← q) (omega arith);
-  row = sym c.loop-i.invariant ∙ row_found _ _ _ c.loop-i-test.true (rw (← c.name_at.ensures) (sym (packed_equal _ _) ∙ sym c.eq.ensures ∙ c.if-eq.true));
+  row = sym c.loop-i.invariant ∙ row_found _ _ c.loop-i.i (omega arith) (sym c.is_named.ensures ∙ c.if-is_named.true);
 }
