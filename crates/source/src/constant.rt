@@ -73,6 +73,8 @@ pub fn decimal(bytes: &[u8], at: usize) -> Token
 }
 
 /// Behind a sign, which stands at an offset.
+// Inlined at both signs, for speed: else every token of `token_of` goes through memory.
+#[inline(always)]
 #[tactic(auto, using(crate::proofs::Constants::for_signed))]
 pub fn signed(sign: Sign, bytes: &[u8], at: usize) -> Token
     requires { (0 < sign.base) × (sign.base ≤ 10) × (sign.limit < 65536) × (at + 1 + length bytes.now < 2 ^ 64) }
