@@ -5,7 +5,7 @@
 
 ghost use Rattle.std.specs.Prelude.{◌≡◌, ◌+◌, ◌-◌, ◌%◌, length, replicate, [], ◌∷◌};
 ghost use Rattle.digits.specs.Digits.{octal, decimal_by, decimal, signed, left_in, right_in};
-ghost use Rattle.text.specs.Adds.{Adds, TextLaws};
+ghost use Rattle.text.specs.Adds.{added, Adds, TextLaws};
 
 // The first number of two digits.
 const TWO_DIGITS: usize = 10;
@@ -29,39 +29,34 @@ impl<'a> Text<'a> {
         Text { out, len: 0 }
     }
 
-    #[tactic(auto, unfolding(crate::specs::Adds::added))]
     pub fn byte(&mut self, byte: u8)
         ensures { Adds self.old self.new (byte ∷ []) }
     {
-        if self.len < self.out.len() {
-            self.out[self.len] = byte;
-        }
-        self.len = self.len.saturating_add(1);
+        self.len = stored(self.out, self.len, byte);
     }
 
     #[tactic(auto, using(crate::proofs::Laws::for_start))]
     pub fn put(&mut self, bytes: &[u8])
         ensures { Adds self.old self.new bytes.now }
     {
+        let out = &mut *self.out;
+        let mut len = self.len;
         for &byte in bytes {
-            self.byte(byte);
+            len = stored(out, len, byte);
         }
+        self.len = len;
     }
 
     #[tactic(auto, using(crate::proofs::Laws::for_start))]
     pub fn spaces(&mut self, count: usize)
         ensures { Adds self.old self.new (replicate count 32) }
     {
+        let out = &mut *self.out;
+        let mut len = self.len;
         for _ in 0..count {
-            self.byte(b' ');
+            len = stored(out, len, b' ');
         }
-    }
-
-    // The lowest octal digit.
-    fn octal_digit(&mut self, n: usize)
-        ensures { Adds self.old self.new ((48 + n % 8) ∷ []) }
-    {
-        self.byte((48 + n % 8) as u8);
+        self.len = len;
     }
 
     // The six lowest octal digits (P3).
@@ -72,22 +67,20 @@ impl<'a> Text<'a> {
         let third = second / 8;
         let fourth = third / 8;
         let fifth = fourth / 8;
-        self.octal_digit(fifth / 8);
-        self.octal_digit(fifth);
-        self.octal_digit(fourth);
-        self.octal_digit(third);
-        self.octal_digit(second);
-        self.octal_digit(n);
+        let out = &mut *self.out;
+        let mut len = octal_digit(out, self.len, fifth / 8);
+        len = octal_digit(out, len, fifth);
+        len = octal_digit(out, len, fourth);
+        len = octal_digit(out, len, third);
+        len = octal_digit(out, len, second);
+        self.len = octal_digit(out, len, n);
     }
 
     // A number in decimal, without zeros in front (P3).
     pub fn decimal(&mut self, n: usize)
         ensures { Adds self.old self.new (decimal n) }
     {
-        if TWO_DIGITS <= n {
-            self.decimal(n / 10);
-        }
-        self.byte(decimal_digit(n));
+        self.len = decimal_digits(self.out, self.len, n);
     }
 
     // A word as a signed number.
@@ -118,6 +111,36 @@ impl<'a> Text<'a> {
         self.spaces(free(width, decimal_length(n)));
         self.decimal(n);
     }
+}
+
+// A byte behind so many, and how many they are with it. The writers above go by a buffer and a length of their own, and set the `Text`'s length once: a
+// `Text` lies in memory, where it would be read again after each byte.
+#[tactic(auto, unfolding(crate::specs::Adds::added))]
+fn stored(out: &mut [u8], len: usize, byte: u8) -> usize
+    ensures { (out.new, result) ≡ added (out.old, len) (byte ∷ []) }
+{
+    if len < out.len() {
+        out[len] = byte;
+    }
+    len.saturating_add(1)
+}
+
+// The lowest octal digit.
+fn octal_digit(out: &mut [u8], len: usize, n: usize) -> usize
+    ensures { (out.new, result) ≡ added (out.old, len) ((48 + n % 8) ∷ []) }
+{
+    stored(out, len, (48 + n % 8) as u8)
+}
+
+// A number's digits.
+fn decimal_digits(out: &mut [u8], len: usize, n: usize) -> usize
+    ensures { (out.new, result) ≡ added (out.old, len) (decimal n) }
+{
+    if n < TWO_DIGITS {
+        return stored(out, len, decimal_digit(n));
+    }
+    let end = decimal_digits(out, len, n / 10);
+    stored(out, end, decimal_digit(n))
 }
 
 // The lowest decimal digit.
