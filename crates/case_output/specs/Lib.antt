@@ -1,0 +1,2 @@
+-- How a run ends, as it is printed.
+pub mod Ended
