@@ -4,16 +4,22 @@
 ghost use Rattle.std.specs.Prelude.{◌<◌, ◌^◌};
 
 use case_input::{parse_number, part_end};
-use compiler::SCRATCH_WORDS;
+use compiler::{Program, SCRATCH_WORDS};
 use listing_lines::LONGEST;
+use parser::Failure;
+
+// The buffer stands at the head of a function of its own: as a later local of `listing` it would be set to zeros twice.
+fn print_lines(rt: &impl Print, answer: Result<Program, Failure>, image: &[u16]) {
+    let mut out = [0u8; LONGEST];
+    let size = listing_lines::lines(answer, image, &mut out);
+    output::print_start(rt, &out, size);
+}
 
 fn listing(rt: &impl Print, source: &[u8]) {
     let mut image = [0u16; 16384];
     let mut scratch = [0u16; SCRATCH_WORDS];
     let answer = compiler::compile(source, &mut image, &mut scratch);
-    let mut out = [0u8; LONGEST];
-    let size = listing_lines::lines(answer, &image, &mut out);
-    output::print_start(rt, &out, size);
+    print_lines(rt, answer, &image);
 }
 
 // The case at `at`: its length and its bytes. Answers where the next one starts.
