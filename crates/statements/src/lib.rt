@@ -1,4 +1,5 @@
 // Statements: parsed and emitted in one go. Where a part fails, its failure is answered at once; of what is emitted then, `KeptImage` holds.
+// What `statement` calls for a form is not inlined: each form's locals hold several pools, and every level of nesting would take the stack of all.
 #![tactic(auto)]
 
 ghost use Rattle.source.specs.Kinds.{kind_number};
@@ -28,7 +29,8 @@ mod counting;
 // The levels of nesting: 0 to 32 (S11).
 const LEVELS: usize = 33;
 
-// A part with the token of a kind after it.
+// A part with the token of a kind after it. Not inlined: its copies of the part would lie on the stack below what is nested.
+#[inline(never)]
 fn followed_by<T: Copy>(source: &[u8], read: Read<T>, kind: Kind) -> Read<T>
     ensures { Follows source.now (kind_number kind) read result }
 {
@@ -83,6 +85,7 @@ fn guarded(
 }
 
 // An `.IF` that is a statement (S4, W10).
+#[inline(never)]
 #[cycle(parts)]
 fn if_statement(
     body: &Body<'_>,
@@ -110,6 +113,7 @@ fn if_statement(
 }
 
 // `.WHEN` condition `.THEN` statement (W11).
+#[inline(never)]
 #[cycle(parts)]
 fn when_statement(
     body: &Body<'_>,
@@ -133,6 +137,7 @@ fn when_statement(
 }
 
 // `.WHILE` condition `.DO` statement (W11).
+#[inline(never)]
 #[cycle(parts)]
 fn while_statement(
     body: &Body<'_>,
@@ -157,6 +162,7 @@ fn while_statement(
 }
 
 // `.FOR` integer or `#` = its first value, `.DO` statement (W13).
+#[inline(never)]
 #[cycle(parts)]
 fn for_statement(
     body: &Body<'_>,
@@ -220,6 +226,7 @@ fn listed(
 }
 
 // `.BEGIN` statements `.END`.
+#[inline(never)]
 #[cycle(parts)]
 fn compound(
     body: &Body<'_>,
