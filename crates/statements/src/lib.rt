@@ -198,6 +198,7 @@ fn for_statement(
 
 // Statements of a level, separated by `;`. Each `;` takes a byte, so the source has as many bytes as there are turns.
 // No function shared with the other lists: its closure would hold the loan of the image.
+// Every answer goes to the one variable: a call of `statement` behind the loop would take a second on the stack of each level.
 #[cycle(parts)]
 fn listed(
     body: &Body<'_>,
@@ -208,10 +209,9 @@ fn listed(
 ) -> Read<Output>
     ensures { Does stmts_words body.now output image.old image.new result (stmts_at body.now left at) }
 {
-    let mut i = at;
     let mut so_far = output;
+    let mut one = statement(body, image, so_far, at, left);
     for _ in 0..body.reader.source.len() {
-        let one = statement(body, image, so_far, i, left);
         let Ok(Part { value, next }) = one else {
             return one;
         };
@@ -220,9 +220,9 @@ fn listed(
             return one;
         }
         so_far = value;
-        i = t.next;
+        one = statement(body, image, so_far, t.next, left);
     }
-    statement(body, image, so_far, i, left)
+    one
 }
 
 // `.BEGIN` statements `.END`.
