@@ -10,7 +10,8 @@ use emitter::{Output, emit_generic, emit_jump, fill_jump};
 use instruction::slot;
 use source::kind::Kind;
 
-// A jump whose target is filled in later.
+// A jump whose target is filled in later. Not inlined: its copies of the output would lie on the stack below a statement after `.ELSE`.
+#[inline(never)]
 pub fn emit_hole(image: &mut [u16], output: Output) -> Guarded
     ensures { PutsHole output image.old result image.new }
 {

@@ -38,7 +38,8 @@ pub fn plain(id: Id) -> Cell
     }
 }
 
-// `=` expression, stored in a cell (W12).
+// `=` expression, stored in a cell (W12). Not inlined, nor `element`: see the head of lib.rt.
+#[inline(never)]
 pub fn store(
     body: &Body<'_>,
     image: &mut [u16],
@@ -60,6 +61,7 @@ pub fn store(
 }
 
 // An array element's subscript, then `=` expression.
+#[inline(never)]
 pub fn element(
     body: &Body<'_>,
     image: &mut [u16],

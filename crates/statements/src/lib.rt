@@ -1,4 +1,5 @@
 // Statements: parsed and emitted in one go. Where a part fails, its failure is answered at once; of what is emitted then, `KeptImage` holds.
+// What `statement` calls for a form is not inlined: each form's locals hold several pools, and every level of nesting would take the stack of all.
 #![tactic(auto)]
 
 ghost use Rattle.source.specs.Kinds.{kind_number};
@@ -28,7 +29,8 @@ mod counting;
 // The levels of nesting: 0 to 32 (S11).
 const LEVELS: usize = 33;
 
-// A part with the token of a kind after it.
+// A part with the token of a kind after it. Not inlined: its copies of the part would lie on the stack below what is nested.
+#[inline(never)]
 fn followed_by<T: Copy>(source: &[u8], read: Read<T>, kind: Kind) -> Read<T>
     ensures { Follows source.now (kind_number kind) read result }
 {
@@ -83,6 +85,7 @@ fn guarded(
 }
 
 // An `.IF` that is a statement (S4, W10).
+#[inline(never)]
 #[cycle(parts)]
 fn if_statement(
     body: &Body<'_>,
@@ -110,6 +113,7 @@ fn if_statement(
 }
 
 // `.WHEN` condition `.THEN` statement (W11).
+#[inline(never)]
 #[cycle(parts)]
 fn when_statement(
     body: &Body<'_>,
@@ -133,6 +137,7 @@ fn when_statement(
 }
 
 // `.WHILE` condition `.DO` statement (W11).
+#[inline(never)]
 #[cycle(parts)]
 fn while_statement(
     body: &Body<'_>,
@@ -157,6 +162,7 @@ fn while_statement(
 }
 
 // `.FOR` integer or `#` = its first value, `.DO` statement (W13).
+#[inline(never)]
 #[cycle(parts)]
 fn for_statement(
     body: &Body<'_>,
@@ -192,6 +198,7 @@ fn for_statement(
 
 // Statements of a level, separated by `;`. Each `;` takes a byte, so the source has as many bytes as there are turns.
 // No function shared with the other lists: its closure would hold the loan of the image.
+// Every answer goes to the one variable: a call of `statement` behind the loop would take a second on the stack of each level.
 #[cycle(parts)]
 fn listed(
     body: &Body<'_>,
@@ -202,10 +209,9 @@ fn listed(
 ) -> Read<Output>
     ensures { Does stmts_words body.now output image.old image.new result (stmts_at body.now left at) }
 {
-    let mut i = at;
     let mut so_far = output;
+    let mut one = statement(body, image, so_far, at, left);
     for _ in 0..body.reader.source.len() {
-        let one = statement(body, image, so_far, i, left);
         let Ok(Part { value, next }) = one else {
             return one;
         };
@@ -214,12 +220,13 @@ fn listed(
             return one;
         }
         so_far = value;
-        i = t.next;
+        one = statement(body, image, so_far, t.next, left);
     }
-    statement(body, image, so_far, i, left)
+    one
 }
 
 // `.BEGIN` statements `.END`.
+#[inline(never)]
 #[cycle(parts)]
 fn compound(
     body: &Body<'_>,

@@ -22,7 +22,7 @@ use Rattle.statements.proofs.Forms.{follow}
 use Rattle.statements.proofs.AssignmentLaws.{stored_as, to_a_lem, to_x, called}
 use Rattle.statements.proofs.Branches.{guarded_as, if_as, after_test, guards, when_lays, while_lays, first_kept, if_lays}
 use Rattle.statements.proofs.CountingLaws.{for_as, for_lays}
-use Rattle.statements.proofs.Lists.{compounded, words_of, listed_first, listed_next}
+use Rattle.statements.proofs.Lists.{compounded, words_of, listed_one, upcoming_first, upcoming_next}
 use Rattle.statements.proofs.Starts.{stmt_empty, stmt_unknown, stmt_deep, stmt_on}
 use Rattle.statements.proofs.+parts.Goals as goal
 
@@ -120,29 +120,28 @@ if_statement-returns t c =
 pub listed-loop-init : goal.listed-loop-init
 listed-loop-init t c =
     let q : length c.args.body.now.reader.source.now - 0 ≡ length c.args.body.now.reader.source.now = omega arith in
-    (refl, rw q (listed_first _ _ _ _))
+    (refl, λ a h. rw q (upcoming_first _ _ _ _ h))
 
 pub listed-returns-in_default : goal.listed-returns-in_default
 listed-returns-in_default t c =
-    let l = c.loop.invariant.1 in
-    rw c.in_default.is (list_failed l (listed_next _ _ _ l.holds c.statement-one.ensures) c.in_default.is (λ w. w))
+    let u = c.loop.invariant.1 _ (listed_one _ _ c.statement-one.ensures) in
+    rw c.in_default.is (list_failed u.list u.read c.in_default.is (λ w. w))
 
 pub listed-returns-then-ne : goal.listed-returns-then-ne
 listed-returns-then-ne t c =
-    let l = c.loop.invariant.1 in
-    rw c.in-Ok.is (list_last l (listed_next _ _ _ l.holds c.statement-one.ensures) c.in-Ok.is (c.token_at-t.ensures ∙ ap (λ p. token_at c.args.body.now.reader.source.now p.next) c.in-Ok.field-0-is) (unequal_kinds _ Kind.Semicolon c.ne.ensures c.if-ne.true))
+    let u = c.loop.invariant.1 _ (listed_one _ _ c.statement-one.ensures) in
+    rw c.in-Ok.is (list_last u.list u.read c.in-Ok.is (c.token_at-t.ensures ∙ ap (λ p. token_at c.args.body.now.reader.source.now p.next) c.in-Ok.field-0-is) (unequal_kinds _ Kind.Semicolon c.ne.ensures c.if-ne.true))
 
 pub listed-loop-preserved : goal.listed-loop-preserved
 unfolding words_of
 listed-loop-preserved t c =
-    let l = c.loop.invariant.1 in
     let q : length c.args.body.now.reader.source.now - c.loop.counter - 1 ≡ length c.args.body.now.reader.source.now - (c.loop.counter + 1) = omega arith in
-    (omega (arith, c.loop.invariant.0, c.statement-one.auto), rw (c.in-Ok.field-0-is, ← q) (sequel_next l (listed_next _ _ _ l.holds c.statement-one.ensures) c.in-Ok.is (c.token_at-t.ensures ∙ ap (λ p. token_at c.args.body.now.reader.source.now p.next) c.in-Ok.field-0-is) (λ _ h. h) (λ z. absurd (let h = c.loop-test.true in omega (arith, h, z))) (not_unequal_kinds _ Kind.Semicolon c.ne.ensures c.if-ne.false)))
+    (omega (arith, c.loop.invariant.0, c.statement-one-in-loop.auto), λ a h. let u = c.loop.invariant.1 a h in rw (← q) (upcoming_next (sequel_next u.list u.read c.in-Ok.is (c.token_at-t.ensures ∙ ap (λ p. token_at c.args.body.now.reader.source.now p.next) c.in-Ok.field-0-is) (λ _ h. h) (λ z. absurd (let h = c.loop-test.true in omega (arith, h, z))) (not_unequal_kinds _ Kind.Semicolon c.ne.ensures c.if-ne.false)) (rw c.in-Ok.field-0-is at c.statement-one-in-loop.ensures)))
 
 pub listed-returns : goal.listed-returns
 listed-returns t c =
-    let l = c.loop.invariant.1 in
-    list_end l (listed_next _ _ _ l.holds c.statement.ensures) (let h = c.loop-test.false in omega (arith, h))
+    let u = c.loop.invariant.1 _ (listed_one _ _ c.statement-one.ensures) in
+    list_end u.list u.read (let h = c.loop-test.false in omega (arith, h))
 
 pub statement-returns-then-ends_statement : goal.statement-returns-then-ends_statement
 unfolding stmt_words

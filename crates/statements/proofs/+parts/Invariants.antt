@@ -1,9 +1,12 @@
 use mathlib.Core.Path.{◌≡◌}
 use lib.ListN.{length}
-use Rattle.emitter.specs.Emitted.{emitted_by, bases_of}
-use Rattle.expressions.specs.Compiles.{source_of}
+use Rattle.emitter.specs.Emitted.{bases_of}
+use mathlib.Core.Option.{none}
+use Rattle.layout.specs.Words.{stmts_words}
+use Rattle.layout.specs.Emission.{Emitted}
+use Rattle.expressions.specs.Compiles.{Compiles, source_of}
 use Rattle.statements.specs.Forms.{stmt_at, stmts_at}
-use Rattle.statements.proofs.Lists.{Listed}
+use Rattle.statements.proofs.Lists.{Upcoming, next}
 use Prim.Native.Nat.{◌+◌, ◌*◌, ◌-◌}
 use Rattle.statements.proofs.+parts.Given as goal
 
@@ -35,4 +38,7 @@ abbrev pub decreases-while_statement : goal.decreases-while_statement
 decreases-while_statement l = 4 * l.inner + 2
 
 abbrev pub invariant-listed-loop : goal.invariant-listed-loop
-invariant-listed-loop l = (length l.image ≡ length l.initial.image) × Listed (bases_of l.body.context) (emitted_by l.initial.so_far l.initial.image) (emitted_by l.so_far l.image) (source_of l.body) (stmt_at l.body l.left) (stmts_at l.body l.left l.at) l.i (l.end - l.counter)
+invariant-listed-loop l =
+    (length l.image ≡ length l.initial.image)
+    × ((a : Emitted) → Compiles (bases_of l.body.context) stmts_words a l.initial.image l.initial.one (next (stmt_at l.body l.left) none l.at)
+    → Upcoming (bases_of l.body.context) a l.image (source_of l.body) (stmt_at l.body l.left) (stmts_at l.body l.left l.at) l.one (l.end - l.counter))
