@@ -127,7 +127,7 @@ impl Numbers<'_> {
         ensures set { (image.new, self.new.at) ≡ words_from self.old.text.now self.old.at image.old }
         ensures same { self.new.text.now ≡ self.old.text.now }
     {
-        // A copy of its own: the place need not be written back at each number.
+        // It reads by a copy, so that the place is not written back to memory at each number.
         let mut numbers = *self;
         for _ in 0..numbers.number() {
             let address = numbers.number();

@@ -1,2 +1,2 @@
--- What is promised of the first program.
+-- What is promised of this program.
 pub mod Words

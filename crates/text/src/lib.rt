@@ -113,7 +113,7 @@ impl<'a> Text<'a> {
     }
 }
 
-// A byte behind so many, and how many they are with it. The writers above go by a buffer and a length of their own, and set the `Text`'s length once: a
+// Stores a byte behind the first `len`, as far as the buffer goes, and answers the length with it. The writers above go by a buffer and a length of their own, and set the `Text`'s length once: a
 // `Text` lies in memory, where it would be read again after each byte. Where the byte is stored no sum is too large, and a plain one costs less.
 #[tactic(auto, unfolding(crate::specs::Adds::added))]
 fn stored(out: &mut [u8], len: usize, byte: u8) -> usize
