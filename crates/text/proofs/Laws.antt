@@ -76,12 +76,18 @@ adds_nothing a = record { same_buffer = refl; all = refl }
 pub same_added : {a b : Text} {u v : List ℕ} → u ≡ v → Adds a b u → Adds a b v
 same_added e p = rw e at p
 
-pub one_more : (t : List ℕ × ℕ) (text : List ℕ) (i : ℕ) {u v : List ℕ × ℕ} → i < length text → u ≡ added t (take i text) → v ≡ added u (get_or text i 0 ∷ [])
+pub one_more_added : (t : List ℕ × ℕ) (text : List ℕ) (i : ℕ) {u v : List ℕ × ℕ} → i < length text → u ≡ added t (take i text) → v ≡ added u (get_or text i 0 ∷ [])
     → v ≡ added t (take (i + 1) text)
-one_more t text i h p q = then_added t (take i text) (get_or text i 0 ∷ []) p q ∙ ap (added t) (sym (ap (λ n. take n text) (add-one i) ∙ take-suc text i 0 h))
+one_more_added t text i h p q = then_added t (take i text) (get_or text i 0 ∷ []) p q ∙ ap (added t) (sym (ap (λ n. take n text) (add-one i) ∙ take-suc text i 0 h))
 
-pub one_space : (t : List ℕ × ℕ) (n : ℕ) {u v : List ℕ × ℕ} → u ≡ added t (replicate n 32) → v ≡ added u (32 ∷ []) → v ≡ added t (replicate (n + 1) 32)
-one_space t n p q = then_added t (replicate n 32) (32 ∷ []) p q ∙ ap (added t) (replicate_more n 32)
+pub one_space_added : (t : List ℕ × ℕ) (n : ℕ) {u v : List ℕ × ℕ} → u ≡ added t (replicate n 32) → v ≡ added u (32 ∷ []) → v ≡ added t (replicate (n + 1) 32)
+one_space_added t n p q = then_added t (replicate n 32) (32 ∷ []) p q ∙ ap (added t) (replicate_more n 32)
+
+pub one_more : {a b c : Text} (text : List ℕ) (i : ℕ) → i < length text → Adds a b (take i text) → Adds b c (get_or text i 0 ∷ []) → Adds a c (take (i + 1) text)
+one_more text i h p q = same_added (sym (ap (λ n. take n text) (add-one i) ∙ take-suc text i 0 h)) (and_then p q)
+
+pub one_space : {a b c : Text} (n : ℕ) → Adds a b (replicate n 32) → Adds b c (32 ∷ []) → Adds a c (replicate (n + 1) 32)
+one_space n p q = same_added (replicate_more n 32) (and_then p q)
 
 -- what is still to be added of a text
 pub record Left (before now : Text) (rest all : List ℕ) : Type 0 where

@@ -1,5 +1,5 @@
-use Rattle.text.proofs.Laws.{one_space}
+use Rattle.text.proofs.Laws.{one_space_added}
 use Rattle.text.proofs.Text.spaces.Goals as goal
 
 pub loop-preserved : goal.loop-preserved
-loop-preserved c = one_space _ _ c.loop.invariant c.stored-len.ensures
+loop-preserved c = one_space_added _ _ c.loop.invariant c.stored-len.ensures
