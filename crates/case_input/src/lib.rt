@@ -31,6 +31,10 @@ fn appended(value: u32, digit: u8) -> u32
 pub fn parse_number(text: &[u8], at: usize) -> Number
     ensures { result ≡ number_from (drop at text.now) 0 at }
 {
+    // Ahead of the loop, for speed: many numbers may be asked for behind the text's end.
+    if text.len() <= at {
+        return Number { value: 0, next: at };
+    }
     let mut value: u32 = 0;
     for i in at..text.len() {
         let b = text[i];
@@ -41,7 +45,7 @@ pub fn parse_number(text: &[u8], at: usize) -> Number
     }
     Number {
         value,
-        next: at.max(text.len()),
+        next: text.len(),
     }
 }
 
@@ -127,13 +131,10 @@ impl Numbers<'_> {
         ensures set { (image.new, self.new.at) ≡ words_from self.old.text.now self.old.at image.old }
         ensures same { self.new.text.now ≡ self.old.text.now }
     {
-        // It reads by a copy, so that the place is not written back to memory at each number.
-        let mut numbers = *self;
-        for _ in 0..numbers.number() {
-            let address = numbers.number();
-            image[(address % 16384) as usize] = numbers.word();
+        for _ in 0..self.number() {
+            let address = self.number();
+            image[(address % 16384) as usize] = self.word();
         }
-        *self = numbers;
     }
 }
 
